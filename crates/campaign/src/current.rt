@@ -4,7 +4,7 @@ ghost use mathlib.Core.Path.{_≡_};
 ghost use Rattle.std.specs.declared.option.Option.the-variants.{Some};
 ghost use Rattle.campaign.specs.Account.{closed-with, is-current};
 ghost use Rattle.campaign.specs.View.{view};
-ghost use Rattle.runs.specs.Readings.{higher};
+ghost use Rattle.terms.specs.Readings.{higher};
 ghost use Rattle.terms.specs.Limits.{top-reading};
 use crate::BegunRun;
 use crate::Log;

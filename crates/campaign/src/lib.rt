@@ -2,7 +2,7 @@
 ghost use Prim.Native.Nat.{_<_, _≤_};
 ghost use Rattle.campaign.specs.Keeping.{before-current};
 ghost use Rattle.runs.specs.Closed.{pairs-of};
-ghost use Rattle.runs.specs.Readings.{highest};
+ghost use Rattle.terms.specs.Readings.{highest};
 ghost use Rattle.terms.specs.Limits.{top-reading};
 use runs::ClosedRuns;
 use terms::Head;

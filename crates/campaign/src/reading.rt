@@ -4,7 +4,7 @@ ghost use lib.ListN.{length};
 ghost use mathlib.Core.Path.{_≡_};
 ghost use Rattle.std.specs.Options.{mapped};
 ghost use Rattle.campaign.specs.View.{view};
-ghost use Rattle.runs.specs.Readings.{highest};
+ghost use Rattle.terms.specs.Readings.{highest};
 ghost use Rattle.terms.specs.Levels.{at-level};
 ghost use Rattle.terms.specs.Limits.{top-reading};
 use crate::BegunRun;

@@ -5,7 +5,7 @@ use Prim.Native.Nat.{ℕ, _<_, _≤_}
 use lib.ListN.{length, take}
 use Rattle.std.specs.declared.result.Result.{Result}
 use Rattle.std.specs.declared.result.Result.the-variants.{Ok, Err}
-use Rattle.runs.specs.Readings.{higher}
+use Rattle.terms.specs.Readings.{higher}
 use Rattle.runs.specs.declared.ClosedRuns.{ClosedRuns}
 use Rattle.runs.specs.declared.keeping.PushRefusal.{PushRefusal}
 use Rattle.runs.specs.declared.keeping.PushRefusal.the-variants.{Full, OverTop}

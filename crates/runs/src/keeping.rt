@@ -5,7 +5,7 @@ ghost use mathlib.Core.List.{[]};
 ghost use mathlib.Core.Path.{_≡_};
 ghost use Rattle.std.specs.Vec.{made};
 ghost use Rattle.runs.specs.Closed.{PushAnswer, pairs-of};
-ghost use Rattle.runs.specs.Readings.{higher, highest};
+ghost use Rattle.terms.specs.Readings.{higher, highest};
 use super::ClosedRuns;
 use terms::Pair;
 

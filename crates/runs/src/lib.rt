@@ -2,7 +2,7 @@
 ghost use Prim.Native.Nat.{_≤_};
 ghost use lib.ListN.{length, take};
 ghost use mathlib.Core.Path.{_≡_};
-ghost use Rattle.runs.specs.Readings.{highest};
+ghost use Rattle.terms.specs.Readings.{highest};
 use terms::Pair;
 
 mod keeping;

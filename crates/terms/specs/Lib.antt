@@ -1,3 +1,4 @@
 pub mod Heads
 pub mod Levels
 pub mod Limits
+pub mod Readings

@@ -1,5 +1,5 @@
 // Examples as tests, for every crate: a crate with tests is proved twice, so they stand here.
 #[cfg(test)]
-mod heads;
+mod head_tests;
 #[cfg(test)]
-mod logs;
+mod log_tests;

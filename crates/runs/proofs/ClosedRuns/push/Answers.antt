@@ -3,8 +3,8 @@ use native.Mathlib.Omega.{arith}
 use lib.ListN.{length-set}
 use lib.Seq.{length-take-le}
 use Rattle.std.proofs.shelf.Lists.{take-more-set}
-use Rattle.runs.specs.Readings.{highest}
-use Rattle.runs.proofs.Highest.{highest-stored}
+use Rattle.terms.specs.Readings.{highest}
+use Rattle.terms.proofs.Highest.{highest-stored}
 use Rattle.runs.proofs.ClosedRuns.push.Needs as need
 
 pub ghost-self : need.ghost-self

@@ -1,13 +1,12 @@
--- The highest reading of a list with one pair more, and of each pair in it.
+-- The highest reading of a list with one pair more.
 use mathlib.Core.List.{List, [], _∷_, _++_}
 use mathlib.Core.Path.{_≡_, ap, _∙_}
-use Prim.Native.Nat.{ℕ, zero, suc, _+_, _<_, _≤_, max}
-use native.Mathlib.Nat.{le-of-suc-le-suc}
+use Prim.Native.Nat.{ℕ, _+_, _<_, max}
 use native.Mathlib.Omega.{arith}
-use lib.ListN.{getD, length, set, take}
+use lib.ListN.{length, set, take}
 use Rattle.std.proofs.shelf.Lists.{take-more-set}
-use Rattle.runs.specs.Readings.{higher, highest}
+use Rattle.terms.specs.Readings.{higher, highest}
 use Rattle.terms.specs.declared.pairs.Pair.{Pair}
 
 pub highest-push : (qs : List Pair) (q : Pair) → highest (qs ++ (q ∷ [])) ≡ max (highest qs) (higher q)
 highest-push [] q = omega arith
@@ -16,9 +15,3 @@ highest-push (x ∷ qs) q = let rest = highest-push qs q in omega arith
 -- a pair stored behind the first n
 pub highest-stored : (qs : List Pair) (n : ℕ) (q : Pair) → n < length qs → highest (take (n + 1) (set qs n q)) ≡ max (highest (take n qs)) (higher q)
 highest-stored qs n q h = ap highest (take-more-set qs n q h) ∙ highest-push (take n qs) q
-
--- no pair of the list reads higher
-pub higher-at : (qs : List Pair) (k : ℕ) (d : Pair) → k < length qs → higher (getD qs k d) ≤ highest qs
-higher-at [] k d h = absurd (omega arith)
-higher-at (q ∷ qs) zero d h = omega arith
-higher-at (q ∷ qs) (suc k) d h = let rest = higher-at qs k d (le-of-suc-le-suc h) in omega arith
