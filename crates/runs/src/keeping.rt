@@ -8,15 +8,7 @@ ghost use Rattle.runs.specs.Closed.{PushAnswer, pairs-of};
 ghost use Rattle.terms.specs.Readings.{higher, highest};
 use super::ClosedRuns;
 use terms::Pair;
-
-// Why a run is not put last.
-#[derive(Clone, Copy, PartialEq, Eq, Debug)]
-pub enum PushRefusal {
-    // There are twelve already.
-    Full,
-    // A reading is over 50,000.
-    OverTop,
-}
+use terms::PairRefusal;
 
 impl ClosedRuns {
     // No runs.
@@ -50,16 +42,16 @@ impl ClosedRuns {
     }
 
     // Puts a pair last, or refuses it and leaves all as it was.
-    pub fn push(&mut self, pair: Pair) -> Result<(), PushRefusal>
+    pub fn push(&mut self, pair: Pair) -> Result<(), PairRefusal>
         ensures answer { λ r. ⌜ PushAnswer (now (self .entry)) pair (now (self .exit)) r ⌝ }
         ensures highest { λ r. ⌜ made r (λ _. highest (pairs-of (now (self .exit))) ≡ max (highest (pairs-of (now (self .entry)))) (higher pair)) ⌝ }
     {
         let at = self.count;
         if at >= 12 {
-            return Err(PushRefusal::Full);
+            return Err(PairRefusal::Full);
         }
         if pair.reference > 50_000 || pair.predicted > 50_000 {
-            return Err(PushRefusal::OverTop);
+            return Err(PairRefusal::OverTop);
         }
         self.runs[at] = pair;
         self.count = at + 1;

@@ -7,10 +7,6 @@ use terms::Pair;
 
 mod keeping;
 
-pub use keeping::PushRefusal;
-pub use keeping::PushRefusalDebug;
-pub use keeping::PushRefusalPartialEq;
-
 // At most twelve runs, in closing order, with no reading over 50,000, which is the top of any kind.
 // What lies beyond the first `count` pairs means nothing.
 #[derive(Clone, Copy)]

@@ -22,3 +22,6 @@ pub use levels::Levels;
 pub use pairs::Pair;
 pub use pairs::PairDebug;
 pub use pairs::PairPartialEq;
+pub use pairs::PairRefusal;
+pub use pairs::PairRefusalDebug;
+pub use pairs::PairRefusalPartialEq;

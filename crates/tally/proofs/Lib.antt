@@ -1,0 +1,5 @@
+pub mod Numbers
+pub mod Shared
+pub mod Sound
+pub mod Spread
+pub mod Squares
