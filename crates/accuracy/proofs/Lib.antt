@@ -1,0 +1,4 @@
+pub mod Accurate
+pub mod Squares
+pub mod Within
+pub mod Words

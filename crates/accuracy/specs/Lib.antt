@@ -1,0 +1,4 @@
+pub mod Accuracy
+pub mod Confidence
+pub mod Rational
+pub mod Words
