@@ -43,10 +43,10 @@ module _ (s : Sums) (w : ℕ) (ew : W s ≡ pos w) where
   variance-is : variance s .top ≡ pos w
   variance-is = over-one (s .n) (DD s) (D s *ℤ D s) ∙ ew
 
-  below : (u v : ℕ) → AtMostConfidence s (pos u over v) → Below (s .n) (s .n - 1) (student (s .n) * student (s .n) * w) u v
+  pub below : (u v : ℕ) → AtMostConfidence s (pos u over v) → Below (s .n) (s .n - 1) (student (s .n) * student (s .n) * w) u v
   below u v h = let k = rw variance-is at h in omega (arith, ints)
 
-  at-most : (u v : ℕ) → Below (s .n) (s .n - 1) (student (s .n) * student (s .n) * w) u v → AtMostConfidence s (pos u over v)
+  pub at-most : (u v : ℕ) → Below (s .n) (s .n - 1) (student (s .n) * student (s .n) * w) u v → AtMostConfidence s (pos u over v)
   at-most u v h = rw variance-is (omega (arith, ints))
 
   module _ (limit reference : ℕ) (enough : 3 ≤ s .n) where
@@ -82,9 +82,11 @@ module _ (s : Sums) (w : ℕ) (ew : W s ≡ pos w) where
     within-says = ⊎-elim neither (λ part. (words part, test-holds part)) (cases-lt (limit * reference) (100 * natAbs (D s)))
 
 -- The same of a tally's sums.
+pub spread-of : {most : ℕ} (s : Sums) → Tops most s → Spreads s → (w : ℕ) × (W s ≡ pos w)
+spread-of s tops spreads =
+    (s .n * (s .rr + s .pp - 2 * s .rp) - natAbs (D s) * natAbs (D s), W-is s tops spreads _ refl _ (omega (arith, distance-fits s tops spreads _ refl)))
+
 pub says : {most : ℕ} (s : Sums) → Tops most s → Spreads s → (limit reference : ℕ) → 3 ≤ s .n
     → (is-within limit reference s ≡ true) ↔ RelativeAccuracy limit (mean s reference) s
 says s tops spreads limit reference enough =
-    let w : W s ≡ pos (s .n * (s .rr + s .pp - 2 * s .rp) - natAbs (D s) * natAbs (D s)) =
-    W-is s tops spreads _ refl _ (omega (arith, distance-fits s tops spreads _ refl)) in
-    within-says s _ w limit reference enough
+    let w = spread-of s tops spreads in within-says s (w .0) (w .1) limit reference enough

@@ -1,0 +1,3 @@
+pub mod Biased
+pub mod Correlated
+pub mod Words
