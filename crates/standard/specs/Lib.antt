@@ -1,0 +1,5 @@
+pub mod Answers
+pub mod Layers
+pub mod Meaning
+pub mod Piles
+pub mod Plain
