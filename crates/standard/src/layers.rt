@@ -19,6 +19,7 @@ pub struct Absolute<S> {
 }
 
 // The standard below, handed back: the margin is over 50,000.
+#[derive(Drop)]
 pub struct MarginRefusal<S> {
     pub below: S,
 }

@@ -125,8 +125,7 @@ module _ {most : ℕ} (s : Sums) (tops : Tops most s) (spreads : Spreads s) (kin
   ratio-says enough =
       let p = variance-top (s .n) (s .p) (s .pp) y Y-is in
       let r = variance-top (s .n) (s .r) (s .rr) x X-is in
-      let some : 0 < s .n * (s .n - 1) = mul-pos (omega arith) (omega arith) in
-      (
+      let some : 0 < s .n * (s .n - 1) = mul-pos (omega arith) (omega arith) in (
         λ h. let k = crossed (s .n * (s .n - 1)) some F x y h in rw (p, r) (omega (arith, ints)),
         λ h. let k = rw (p, r) at h in uncrossed (s .n * (s .n - 1)) some F x y (omega (arith, ints)),
       )

@@ -120,8 +120,7 @@ tops {most} {s} h =
     let ok = sound h in
     let rr : s .rr ≤ most * 2500000000 = omega (arith, ok) in
     let pp : s .pp ≤ most * 2500000000 = omega (arith, ok) in
-    let rp : s .rp ≤ most * 2500000000 = omega (arith, ok) in
-    (
+    let rp : s .rp ≤ most * 2500000000 = omega (arith, ok) in (
       (ok .few, omega (arith, ok), omega (arith, ok)),
       (rr, pp, rp),
       (mul-le _ _ _ _ (ok .few) rr, mul-le _ _ _ _ (ok .few) pp, mul-le _ _ _ _ (ok .few) rp),

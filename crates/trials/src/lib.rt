@@ -3,3 +3,7 @@
 mod head_tests;
 #[cfg(test)]
 mod log_tests;
+#[cfg(test)]
+mod standard_tests;
+#[cfg(test)]
+mod table_tests;

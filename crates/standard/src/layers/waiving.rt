@@ -22,7 +22,11 @@ pub impl<S: Standard> Standard for Waiver<S> as WaiverStandard {
     // Mostly nothing is waived, and the standard below is asked straight away.
     fn together(&self, low: &Tally, mid: &Tally, high: &Tally) -> bool {
         let head = &self.head;
-        let (l, m, h) = (is_waived(head, low), is_waived(head, mid), is_waived(head, high));
+        let (l, m, h) = (
+            is_waived(head, low),
+            is_waived(head, mid),
+            is_waived(head, high),
+        );
         if !l && !m && !h {
             return self.below.together(low, mid, high);
         }
