@@ -7,3 +7,5 @@ mod log_tests;
 mod standard_tests;
 #[cfg(test)]
 mod table_tests;
+#[cfg(test)]
+mod worked_tests;

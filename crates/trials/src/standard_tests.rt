@@ -20,7 +20,6 @@ use terms::Level;
 use terms::Pair;
 use terms::PairRefusalDebug;
 use terms::Use;
-use worked::worked_pairs;
 
 fn tally(n: u32, reference: u32, predicted: u32) -> Result<Tally, Fail> {
     let mut tally = Tally::none();
@@ -37,22 +36,6 @@ fn tally(n: u32, reference: u32, predicted: u32) -> Result<Tally, Fail> {
 
 fn ppm() -> Result<Head, Fail> {
     Ok(Head::new(Kind::Ppm, Use::Compliance, 2000, 5000)?)
-}
-
-#[test]
-fn worked() -> Result<(), Fail> {
-    let worked = worked_pairs();
-    for edge in [
-        worked.tenth,
-        worked.fifth,
-        worked.scatter,
-        worked.variance,
-        worked.correlation,
-    ] {
-        check(edge.at)?;
-        check(!edge.beyond)?;
-    }
-    Ok(())
 }
 
 // A level without runs, or with one or two, is not accurate, however alike its readings are.
