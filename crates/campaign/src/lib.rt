@@ -1,4 +1,6 @@
 // A campaign's log, kept by begin, close and void, and the token of a run that is begun.
+#![tactic(auto)]
+
 ghost use Rattle.std.specs.Prelude.{◌<◌, ◌≤◌};
 ghost use Rattle.campaign.specs.Keeping.{before_current};
 ghost use Rattle.runs.specs.Closed.{pairs_of};

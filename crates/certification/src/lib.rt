@@ -1,4 +1,6 @@
 // The verdict on a campaign: its log judged by any standard, or by PS-16.
+#![tactic(auto)]
+
 mod judging;
 mod replaying;
 

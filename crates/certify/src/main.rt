@@ -1,4 +1,6 @@
 // Runs one campaign from beginning to end and prints what was done.
+#![tactic(auto)]
+
 mod crew;
 
 use campaign::BeginRefusal;

@@ -1,4 +1,6 @@
 // Fractions, compared without multiplying across.
+#![tactic(auto)]
+
 ghost use Rattle.std.specs.Prelude.{◌<◌};
 
 mod comparing;

@@ -1,4 +1,6 @@
 // The judge: which runs to strike so that a campaign meets a standard, or why none can be.
+#![tactic(auto)]
+
 mod causes;
 mod judging;
 mod listing;

@@ -1,4 +1,6 @@
 // What programs in Rust or C may call, over numbers and bytes: for benchmarks and for tests against other programs.
+#![tactic(auto)]
+
 ghost use Rattle.std.specs.Prelude.{◌≡◌};
 ghost use Rattle.linked.specs.Linked.{correlated};
 

@@ -1,4 +1,6 @@
 // The closed runs of one level.
+#![tactic(auto)]
+
 ghost use Rattle.std.specs.Prelude.{◌≡◌, ◌≤◌, length, take};
 ghost use Rattle.terms.specs.Readings.{highest};
 

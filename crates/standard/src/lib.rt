@@ -1,4 +1,6 @@
 // What a campaign is judged by: the trait of a standard, PS-16's own standards, and layers over any standard.
+#![tactic(auto)]
+
 mod layers;
 mod piles;
 mod plain;

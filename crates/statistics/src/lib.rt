@@ -1,4 +1,6 @@
 // The statistical tests of PS-16 for compliance use, and where they are waived, in exact whole numbers.
+#![tactic(auto)]
+
 mod biases;
 mod correlations;
 mod variances;

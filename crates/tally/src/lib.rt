@@ -1,4 +1,6 @@
 // Exact sums over the pairs of a level, and over those of three levels together.
+#![tactic(auto)]
+
 mod joins;
 mod sums;
 mod tallies;

@@ -1,5 +1,7 @@
 // The terms of a campaign: what a monitor measures and what it is used for, the levels of load, pairs of readings, and
 // the head of a campaign's log.
+#![tactic(auto)]
+
 mod heads;
 mod kinds;
 mod levels;

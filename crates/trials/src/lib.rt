@@ -1,4 +1,6 @@
 // Examples as tests, for every crate: a crate with tests is proved twice, so they stand here.
+#![tactic(auto)]
+
 #[cfg(test)]
 mod head_tests;
 #[cfg(test)]

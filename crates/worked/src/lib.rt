@@ -1,4 +1,6 @@
 // Worked pairs: what the rules answer where the answer was worked out by hand, as one proved result.
+#![tactic(auto)]
+
 ghost use Rattle.worked.specs.Worked.{Worked};
 
 // The answer at an edge, and the answer just beyond it.
