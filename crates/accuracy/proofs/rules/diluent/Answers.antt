@@ -6,7 +6,7 @@ use Rattle.accuracy.proofs.rules.diluent.Goals as goal
 pub returns : goal.returns
 returns c =
     let t = c.args.tally.now in
-    let is = c.is-within.ensures in
+    let is = c.is_within.ensures in
     record {
       value = is;
       words = rw is (diluent_says t.sums t.tops t.spreads);

@@ -11,11 +11,11 @@ pub returns-then-whole-part : goal.returns-then-whole-part
 returns-then-whole-part c =
     sym (not_within c.args.tally.now.sums _ _ _ c.distance-part.ensures.value c.if-whole-part.true)
 
-pub overflow-mul-result-2 : goal.overflow-mul-result-2
-overflow-mul-result-2 c = omega (arith, mul-le _ _ _ _ (left c) (left c))
+pub overflow_mul-result-2 : goal.overflow_mul-result-2
+overflow_mul-result-2 c = omega (arith, mul-le _ _ _ _ (left c) (left c))
 
-pub overflow-mul-result-3 : goal.overflow-mul-result-3
-overflow-mul-result-3 c =
+pub overflow_mul-result-3 : goal.overflow_mul-result-3
+overflow_mul-result-3 c =
     let runs : 100 * (c.args.tally.now.sums.n - 1) ≤ 1100 = omega arith in
     omega (arith, mul-le _ _ _ _ runs (mul-le _ _ _ _ (left c) (left c)))
 

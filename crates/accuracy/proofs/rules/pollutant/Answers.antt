@@ -7,7 +7,7 @@ pub returns : goal.returns
 returns c =
     let t = c.args.tally.now in
     let head = c.args.head.now in
-    let is : c.is-within.result ≡ pollutant_accurate head.kind head.emission t.sums = search rules in
+    let is : c.is_within.result ≡ pollutant_accurate head.kind head.emission t.sums = search rules in
     record {
       value = is;
       words = rw is (pollutant_says t.sums t.tops t.spreads head.kind head.emission);

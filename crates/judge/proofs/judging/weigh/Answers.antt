@@ -17,7 +17,7 @@ returns-in-Some-fewest g c =
     let closed = c.args.closed.now in
     fewest_best m (g.met.S.Standard.lawful c.args.standard.now) (lists_of closed) _ _ _ c.new-low.ensures c.new-mid.ensures c.new-high.ensures
     (by_level (λ at. length (at_level (lists_of closed) at) ≤ 12) (few_pairs closed.low) (few_pairs closed.mid) (few_pairs closed.high))
-    c.in-default.ensures _ _ c.in-Some-fewest.ensures
+    c.in_default.ensures _ _ c.in-Some-fewest.ensures
 
 pub returns-in-None : goal.returns-in-None
 returns-in-None g c =
@@ -26,7 +26,7 @@ returns-in-None g c =
     let closed = c.args.closed.now in
     let levels : Levels Summary = record { low = c.summary.result; mid = c.summary-in-None.result; high = c.summary-in-None-2.result } in
     record {
-      enough = c.in-default.ensures;
+      enough = c.in_default.ensures;
       none = none_meets m lawful (lists_of closed) _ _ _ c.new-low.ensures c.new-mid.ensures c.new-high.ensures c.in-None.ensures;
       because = c.cause.ensures m (lists_of closed) c.most_in_all.ensures
           (by_level (λ at. SumsUp m at (at_level (lists_of closed) at) (at_level levels at))

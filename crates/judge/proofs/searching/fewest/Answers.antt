@@ -11,16 +11,16 @@ pub returns-in-Some : goal.returns-in-Some
 returns-in-Some g c =
     let m = g.S.Standard.meaning c.args.standard.now in
     alike (λ a b. Fewest m c.args.low.now a b c.in-Some.selection c.loop-total.total) c.items-mids.ensures c.items-highs.ensures
-    (record { in_all = omega (arith, c.loop-total-test.true, c.most-in-all-total-end.ensures); fewer = c.loop-total.invariant; found = c.in-Some.ensures })
+    (record { in_all = omega (arith, c.loop-total-test.true, c.most_in_all-total-end.ensures); fewer = c.loop-total.invariant; found = c.in-Some.ensures })
 
 pub loop-total-preserved : goal.loop-total-preserved
 loop-total-preserved g c =
     let m = g.S.Standard.meaning c.args.standard.now in
-    below_more (NoStrike m c.args.low.now c.items-mids.result.now c.items-highs.result.now) c.loop-total.total c.loop-total.invariant c.in-default.ensures
+    below_more (NoStrike m c.args.low.now c.items-mids.result.now c.items-highs.result.now) c.loop-total.total c.loop-total.invariant c.in_default.ensures
 
-pub returns-in-default : goal.returns-in-default
-returns-in-default g c n h =
+pub returns-in_default : goal.returns-in_default
+returns-in_default g c n h =
     let m = g.S.Standard.meaning c.args.standard.now in
     alike (λ a b. NoStrike m c.args.low.now a b n) c.items-mids.ensures c.items-highs.ensures
-    (below_more (NoStrike m c.args.low.now c.items-mids.result.now c.items-highs.result.now) c.loop-total.total c.loop-total.invariant c.in-default.ensures
-    n (omega (arith, c.most-in-all-total-end.ensures)))
+    (below_more (NoStrike m c.args.low.now c.items-mids.result.now c.items-highs.result.now) c.loop-total.total c.loop-total.invariant c.in_default.ensures
+    n (omega (arith, c.most_in_all-total-end.ensures)))

@@ -13,18 +13,18 @@ use Rattle.runs.proofs.ClosedRuns.kept.Goals.{then-rest-eq0, else-rest-eq0}
 abbrev beyond : Pair
 beyond = record { reference = 0; predicted = 0 }
 
-pub take-in-requires : goal.take-in-requires
-take-in-requires c =
-    let high = higher_at c.as-slice-pairs.result.now c.loop-pair.pair-index beyond c.loop-pair-test.true in
+pub take_in-requires : goal.take_in-requires
+take_in-requires c =
+    let high = higher_at c.as_slice-pairs.result.now c.loop-pair.pair-index beyond c.loop-pair-test.true in
     record { room = omega arith; within = omega arith }
 
 pub loop-pair-preserved : goal.loop-pair-preserved
 loop-pair-preserved c =
-    let pairs = c.as-slice-pairs.result.now in
+    let pairs = c.as_slice-pairs.result.now in
     let l = c.loop-pair in
     elim c.if-rest-eq0.branch [
       | then-rest-eq0 w ↦
-          let is = ap (λ (t : Tally). t.sums) w.tally-is ∙ w.take-in.ensures in
+          let is = ap (λ (t : Tally). t.sums) w.tally-is ∙ w.take_in.ensures in
           let n = ap (λ (s : Sums). s.n) is in
           (omega arith, more_kept pairs _ _ _ _ beyond l.invariant.1 c.loop-pair-test.true _ is w.if-rest-eq0.true)
       | else-rest-eq0 w ↦
@@ -35,4 +35,4 @@ loop-pair-preserved c =
 
 pub returns : goal.returns
 returns c =
-    all_kept _ _ _ _ _ c.loop-pair.invariant.1 c.loop-pair-test.false ∙ ap (λ qs. sums_of (kept c.args.struck qs)) c.as-slice-pairs.ensures.pairs
+    all_kept _ _ _ _ _ c.loop-pair.invariant.1 c.loop-pair-test.false ∙ ap (λ qs. sums_of (kept c.args.struck qs)) c.as_slice-pairs.ensures.pairs

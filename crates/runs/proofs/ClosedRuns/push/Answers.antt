@@ -4,8 +4,8 @@ use Rattle.terms.specs.Readings.{highest}
 use Rattle.terms.proofs.Highest.{highest_stored}
 use Rattle.runs.proofs.ClosedRuns.push.Goals as goal
 
-pub invariant-of-self : goal.invariant-of-self
-invariant-of-self c =
+pub invariant_of-self : goal.invariant_of-self
+invariant_of-self c =
     let runs = c.args.self.now.runs in
     let higher = highest_stored runs c.args.self.now.count c.args.pair (omega arith) in
     (length-set runs _ _ ∙ c.args.self.now.room, (omega arith, (omega (arith, higher), tt)))

@@ -10,8 +10,8 @@ returns-then-tally c =
     let is = sym (not_biased t.sums c.if-tally.true) in
     record { value = is; words = rw is (biased_says t.sums t.tops t.spreads) }
 
-pub overflow-mul-result-3 : goal.overflow-mul-result-3
-overflow-mul-result-3 c =
+pub overflow_mul-result-3 : goal.overflow_mul-result-3
+overflow_mul-result-3 c =
     let s = c.args.tally.now.sums in
     let runs : 1000000 * (s.n - 1) ≤ 11000000 = omega arith in
     let difference : s.r - s.p ≤ 600000 = omega arith in

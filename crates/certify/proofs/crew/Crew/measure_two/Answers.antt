@@ -5,6 +5,6 @@ use Rattle.certify.proofs.crew.Crew.measure_two.Goals as goal
 
 pub returns : goal.returns
 returns c =
-    let one = begun_and_finished _ _ _ c.args.level _ c.args.first c.begin.ensures.account c.in-ok-run.ensures.answer c.close.ensures in
-    let two = begun_and_finished _ _ _ c.args.level _ c.args.second c.begin-2.ensures.account c.in-ok-another.ensures.answer c.close-2.ensures in
+    let one = begun_and_finished _ _ _ c.args.level _ c.args.first c.begin.ensures.account c.in_ok-run.ensures.answer c.close.ensures in
+    let two = begun_and_finished _ _ _ c.args.level _ c.args.second c.begin-2.ensures.account c.in_ok-another.ensures.answer c.close-2.ensures in
     two ∙ ap (λ a. measured a c.args.level c.args.second) one

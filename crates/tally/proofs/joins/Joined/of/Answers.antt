@@ -1,7 +1,7 @@
 use Rattle.tally.proofs.Sound.{joined, spreads, tops}
 use Rattle.tally.proofs.joins.Joined.of.Goals as goal
 
-pub invariant-of-result : goal.invariant-of-result
-invariant-of-result c =
+pub invariant_of-result : goal.invariant_of-result
+invariant_of-result c =
     let real = joined c.args.low.now.real c.args.mid.now.real c.args.high.now.real in
-    (real, (tops real, (spreads real, tt)))
+    record { real = real; tops = tops real; spreads = spreads real }

@@ -4,7 +4,7 @@ use Rattle.tally.proofs.tallies.Tally.difference_spread.Goals as goal
 
 pub returns : goal.returns
 returns c =
-    let spread = c.difference-spread.ensures in
+    let spread = c.difference_spread.ensures in
     record {
       value = spread.value;
       top = omega (arith, spread.top);
