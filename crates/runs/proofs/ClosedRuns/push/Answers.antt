@@ -8,7 +8,11 @@ pub invariant_of-self : goal.invariant_of-self
 invariant_of-self c =
     let runs = c.args.self.now.runs in
     let higher = highest_stored runs c.args.self.now.count c.args.pair (omega arith) in
-    (length-set runs _ _ ∙ c.args.self.now.room, (omega arith, (omega (arith, higher), tt)))
+    record {
+      room = length-set runs _ _ ∙ c.args.self.now.room;
+      few = omega arith;
+      within = omega (arith, higher);
+    }
 
 pub returns : goal.returns
 returns c =
