@@ -9,7 +9,7 @@ use standard::{Ps16, Standard};
 
 // The verdict on the closed runs of a log, by any standard. A run that is begun and not ended is no closed run.
 pub fn judge_by<S: Standard>(standard: &S, log: &Log) -> Verdict
-    ensures { Law (meaning standard.now) (view log.now).closed result }
+    ensures { Law (S.meaning standard.now) (view log.now).closed result }
 {
     judge(standard, &log.runs())
 }

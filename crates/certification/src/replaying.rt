@@ -26,7 +26,7 @@ pub fn replay_and_judge<S: Standard>(
 ) -> Judged
     ensures account { view result.replayed.log ≡ account head serial calls.now }
     ensures run { held_id result.replayed.run ≡ (view result.replayed.log).current }
-    ensures law { Law (meaning standard.now) (account head serial calls.now).closed result.verdict }
+    ensures law { Law (S.meaning standard.now) (account head serial calls.now).closed result.verdict }
 {
     let replayed = replay(head, serial, calls);
     let verdict = judge_by(standard, &replayed.log);

@@ -14,13 +14,13 @@ use terms::{Level, Levels};
 
 // The allowed selection that meets the standard with fewest struck, or why there is none.
 pub fn judge<S: Standard>(standard: &S, closed: &Levels<ClosedRuns>) -> Verdict
-    ensures { Law (meaning standard.now) (lists_of closed.now) result }
+    ensures { Law (S.meaning standard.now) (lists_of closed.now) result }
 {
     weigh(standard, closed)
 }
 
 fn weigh<S: Standard>(standard: &S, closed: &Levels<ClosedRuns>) -> Verdict
-    ensures { Answers (meaning standard.now) (lists_of closed.now) result }
+    ensures { Answers (S.meaning standard.now) (lists_of closed.now) result }
 {
     if let Some(level) = short(standard, closed) {
         return Verdict::Short(level);
@@ -43,7 +43,7 @@ fn weigh<S: Standard>(standard: &S, closed: &Levels<ClosedRuns>) -> Verdict
 
 // The first level with fewer closed runs than the least to be kept.
 fn short<S: Standard>(standard: &S, closed: &Levels<ClosedRuns>) -> Option<Level>
-    ensures { MatchOption result (Enough (meaning standard.now) (lists_of closed.now)) (First (TooFew (meaning standard.now) (lists_of closed.now))) }
+    ensures { MatchOption result (Enough (S.meaning standard.now) (lists_of closed.now)) (First (TooFew (S.meaning standard.now) (lists_of closed.now))) }
 {
     let least = standard.least_kept() as usize;
     if closed.low.len() < least {

@@ -21,7 +21,7 @@ enum Standing {
 
 // Asks accuracy and, where that is a yes, statistics.
 fn ask_both<S: Standard>(standard: &S, level: Level, kept: &Tally) -> Standing
-    ensures { Stands (meaning standard.now) level kept.now.sums result }
+    ensures { Stands (S.meaning standard.now) level kept.now.sums result }
 {
     if !standard.accuracy(level, kept) {
         Standing::Inaccurate
@@ -41,7 +41,7 @@ impl Shortlist {
         from: u32,
         to: u32,
     ) -> Shortlist
-        ensures { Whole (meaning standard.now) level (pairs_of runs.now) from to result }
+        ensures { Whole (S.meaning standard.now) level (pairs_of runs.now) from to result }
     {
         let mut list = Shortlist::empty(from, to);
         for set in 0..(1u32 << runs.len()) {
@@ -70,8 +70,8 @@ impl Shortlist {
     // Takes a set in where it fits, gets both yeses, and strikes neither too few nor too many.
     fn consider<S: Standard>(&mut self, standard: &S, level: Level, runs: &ClosedRuns, set: u32)
         requires closed { set < 2 ^ length (pairs_of runs.now) }
-        requires begun { Gathered (meaning standard.now) level (pairs_of runs.now) self.old.from self.old.to set self.old }
-        ensures { Gathered (meaning standard.now) level (pairs_of runs.now) self.old.from self.old.to (set + 1) self.new }
+        requires begun { Gathered (S.meaning standard.now) level (pairs_of runs.now) self.old.from self.old.to set self.old }
+        ensures { Gathered (S.meaning standard.now) level (pairs_of runs.now) self.old.from self.old.to (set + 1) self.new }
     {
         if !self.takes(standard, runs, set) {
             return;
@@ -94,7 +94,7 @@ impl Shortlist {
     // Whether a set fits, and strikes neither too few nor too many for this list.
     fn takes<S: Standard>(&self, standard: &S, runs: &ClosedRuns, set: u32) -> bool
         requires { set < 2 ^ length (pairs_of runs.now) }
-        ensures { MatchBool result (Between self.now.from self.now.to set × Fits (meaning standard.now) (pairs_of runs.now) set) (Between self.now.from self.now.to set → Fits (meaning standard.now) (pairs_of runs.now) set → ⊥) }
+        ensures { MatchBool result (Between self.now.from self.now.to set × Fits (S.meaning standard.now) (pairs_of runs.now) set) (Between self.now.from self.now.to set → Fits (S.meaning standard.now) (pairs_of runs.now) set → ⊥) }
     {
         let struck = set.count_ones();
         if struck < self.from || struck > self.to || struck > standard.most_struck() {

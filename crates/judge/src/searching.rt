@@ -11,7 +11,7 @@ use terms::Level;
 
 impl ByCount {
     pub(crate) fn new<S: Standard>(standard: &S, level: Level, runs: &ClosedRuns) -> ByCount
-        ensures { Groups (meaning standard.now) level (pairs_of runs.now) result }
+        ensures { Groups (S.meaning standard.now) level (pairs_of runs.now) result }
     {
         ByCount {
             none: Shortlist::new(standard, level, runs, 0, 0),
@@ -42,7 +42,7 @@ fn first_striking<S: Standard>(
     high: &[Entry],
     total: u32,
 ) -> Option<Selection>
-    ensures { MatchOption result (NoStrike (meaning standard.now) low.now mid.now high.now total) (Found (meaning standard.now) low.now mid.now high.now total) }
+    ensures { MatchOption result (NoStrike (S.meaning standard.now) low.now mid.now high.now total) (Found (S.meaning standard.now) low.now mid.now high.now total) }
 {
     let mut found = None;
     'search: for h in high {
@@ -76,7 +76,7 @@ pub(crate) fn fewest<S: Standard>(
     mid: &Shortlist,
     high: &Shortlist,
 ) -> Option<(Selection, u32)>
-    ensures { MatchOption result (NoneBelow (meaning standard.now) low.now (listed mid.now) (listed high.now) ((meaning standard.now).most_in_all + 1)) (λ x. Fewest (meaning standard.now) low.now (listed mid.now) (listed high.now) x.0 x.1) }
+    ensures { MatchOption result (NoneBelow (S.meaning standard.now) low.now (listed mid.now) (listed high.now) ((S.meaning standard.now).most_in_all + 1)) (λ x. Fewest (S.meaning standard.now) low.now (listed mid.now) (listed high.now) x.0 x.1) }
 {
     let mids = mid.items();
     let highs = high.items();
