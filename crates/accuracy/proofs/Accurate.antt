@@ -1,9 +1,8 @@
 -- The tests of a pollutant and of a diluent say what the rule's words say.
-use Rattle.std.proofs.Common.{◌≡◌, ℕ, ◌*◌, ◌<◌, ◌≤◌, Bool, true, cond, ltb, leb, ◌↔◌, nat_abs, sym, ap, ◌∙◌, ⊎_elim, mul-le-mul_right, arith}
+use Rattle.std.proofs.Common.{◌≡◌, ℕ, ◌*◌, ◌<◌, ◌≤◌, Bool, true, cond, ltb, ◌↔◌, nat_abs, sym, ap, ◌∙◌, ⊎_elim, mul-le-mul_right, arith}
 use Rattle.std.proofs.lemmas.Int.{ints}
 use Rattle.std.proofs.lemmas.Bool.{and_from, and_parts, cases_lt, cond_both, cond-false, cond-true, le-leb, le-ltb, leb-true, lt-ltb}
 use Rattle.accuracy.specs.Accuracy.{diluent_accurate, is_close, is_within, limit_of, marks_of, pollutant_accurate, reference_of}
-use Rattle.tally.specs.Numbers.{D}
 use Rattle.tally.specs.Sums.{Spreads, Tops}
 use Rattle.accuracy.specs.Words.{Accurate, AccurateDiluent, Flawless}
 use Rattle.terms.specs.declared.kinds.Kind.{Kind}

@@ -1,5 +1,5 @@
 -- What a crew's runs leave of an account.
-use Rattle.std.specs.Prelude.{ℕ, ◌+◌, [], ◌∷◌, fold}
+use Rattle.std.specs.Prelude.{◌+◌, [], ◌∷◌, fold}
 use Rattle.campaign.specs.Account.{Account, step}
 use Rattle.campaign.specs.declared.RunId.{RunId}
 use Rattle.campaign.specs.declared.replaying.Call.TheVariants.{Begin, Close, Void}

@@ -1,5 +1,5 @@
 -- What answers under a standard answers under every standard of the same meaning.
-use Rattle.std.proofs.Common.{◌≡◌, ℕ, ◌/◌, ◌%◌, ◌<◌, ◌≤◌, true, eqb, ◌⊎◌, List, [], ◌∷◌, length, sym, refl, ◌∙◌, subst, zero-le, arith}
+use Rattle.std.proofs.Common.{ℕ, ◌/◌, ◌%◌, ◌≤◌, eqb, List, [], ◌∷◌, length, sym, refl, ◌∙◌, zero-le, arith}
 use Rattle.std.proofs.lemmas.Bool.{cond_both}
 use Rattle.judge.specs.Judging.{AllFit, AllPass, Allowed, Answers, Barren, Because, Campaign, First, Meets, TooFew}
 use Rattle.judge.specs.Law.{OneMeaning, Tallied}
@@ -12,7 +12,7 @@ use Rattle.runs.specs.Sets.{Selection, kept}
 use Rattle.standard.specs.Meaning.{Meaning}
 use Rattle.tally.specs.Sums.{sums_of}
 use Rattle.terms.specs.Levels.{at_level}
-use Rattle.terms.specs.Readings.{higher, highest}
+use Rattle.terms.specs.Readings.{highest}
 use Rattle.terms.specs.declared.levels.Level.{Level}
 use Rattle.terms.specs.declared.levels.Level.TheVariants.{Low, Mid, High}
 use Rattle.terms.specs.declared.pairs.Pair.{Pair}

@@ -1,9 +1,8 @@
 -- Why none meets the standard, from what each level has to show.
-use Rattle.std.proofs.Common.{◌≡◌, ℕ, ◌+◌, ◌<◌, ◌≤◌, Bool, true, false, cond, List, Some, None, Option, sym, refl, ap, subst, arith}
-use lib.Count.{ones}
+use Rattle.std.proofs.Common.{◌≡◌, ℕ, ◌+◌, ◌<◌, ◌≤◌, Bool, true, false, cond, Some, None, sym, refl, arith}
 use Rattle.std.proofs.lemmas.Option.{MatchOption-at_none, MatchOption-at_some}
 use Rattle.judge.specs.Causes.{Lightest, SumsUp}
-use Rattle.judge.specs.Judging.{AllFit, AllPass, Allowed, Barren, Because, Campaign, First}
+use Rattle.judge.specs.Judging.{Barren, Because, Campaign, First}
 use Rattle.judge.specs.Sets.{Accurate, Fits, Passes}
 use Rattle.judge.specs.declared.causes.Summary.{Summary}
 use Rattle.judge.specs.declared.verdicts.Cause.TheVariants.{Accuracy, Statistics, TooMany, Together}

@@ -1,8 +1,8 @@
 -- From the shortlists of the three levels to the best selection, or to none.
-use Rattle.std.proofs.Common.{◌≡◌, ℕ, ◌+◌, ◌*◌, ◌^◌, ◌<◌, ◌≤◌, true, ◌⊎◌, List, length, sym, refl, ap, ◌∙◌, subst, inl, inr, ⊎_elim, arith}
+use Rattle.std.proofs.Common.{◌≡◌, ℕ, ◌+◌, ◌<◌, ◌≤◌, length, sym, ap, ◌∙◌, subst, inl, inr, ⊎_elim, arith}
 use lib.Count.{ones}
 use Rattle.std.proofs.lemmas.Bool.{cases_order}
-use Rattle.judge.specs.Judging.{AllFit, AllPass, Allowed, Best, Campaign, Enough, Meets, NoWorse, code, left_at, struck_in_all}
+use Rattle.judge.specs.Judging.{AllFit, AllPass, Allowed, Best, Campaign, Enough, Meets, code, left_at, struck_in_all}
 use Rattle.judge.specs.Search.{Fewest, Groups, NoneBelow, Strike, group}
 use Rattle.judge.specs.Sets.{Fits, Passes}
 use Rattle.judge.specs.Shortlists.{Listed, Whole, item, listed}

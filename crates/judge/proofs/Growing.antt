@@ -1,5 +1,5 @@
 -- A shortlist grows by one set.
-use Rattle.std.proofs.Common.{◌≡◌, ℕ, ◌+◌, ◌<◌, ◌≤◌, Bool, true, false, List, [], ◌∷◌, ◌++◌, length, sym, refl, ap, ◌∙◌, subst, ⊎_elim, arith, below_more}
+use Rattle.std.proofs.Common.{◌≡◌, ℕ, ◌+◌, ◌<◌, ◌≤◌, Bool, true, List, [], ◌∷◌, ◌++◌, length, sym, refl, ap, ◌∙◌, subst, ⊎_elim, arith, below_more}
 use borrow.Author.Tests.{clash}
 use lib.Count.{ones}
 use Rattle.std.proofs.lemmas.List.{get_or_append_left, get_or_push, length_push}

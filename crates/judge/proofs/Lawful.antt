@@ -1,7 +1,7 @@
 -- The law of the judge follows from what its verdict says.
-use Rattle.std.proofs.Common.{◌≡◌, ℕ, ◌↔◌, sym, refl, subst, arith}
+use Rattle.std.proofs.Common.{◌≡◌, ℕ, ◌↔◌, refl, subst, arith}
 use Rattle.judge.specs.Judging.{Allowed, Answers, Campaign, Enough, Meets, TooFew}
-use Rattle.judge.specs.Law.{Certificate, IsCertified, IsDenied, Law, OneMeaning}
+use Rattle.judge.specs.Law.{Certificate, IsCertified, IsDenied, Law}
 use Rattle.judge.specs.declared.verdicts.Verdict.{Verdict}
 use Rattle.judge.specs.declared.verdicts.Verdict.TheVariants.{Short, Certified, Denied}
 use Rattle.judge.proofs.Alike.{LawfulRuns, carried, other_way}

@@ -1,5 +1,5 @@
 -- The fewest that a set of a level strikes.
-use Rattle.std.proofs.Common.{◌≡◌, ℕ, ◌+◌, ◌<◌, ◌≤◌, min, List, length, Some, None, Option, sym, refl, ap, ◌∙◌, subst, ⊎_elim, arith, below_more}
+use Rattle.std.proofs.Common.{◌≡◌, ℕ, ◌+◌, ◌≤◌, min, List, length, Some, None, Option, subst, ⊎_elim, arith, below_more}
 use Rattle.std.proofs.lemmas.Bool.{cases_lt}
 use Rattle.judge.specs.Causes.{FewestOf, FewestStruck, fewer_of}
 use Rattle.judge.specs.Shortlists.{item}

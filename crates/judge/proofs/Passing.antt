@@ -7,7 +7,6 @@ use Rattle.judge.specs.Search.{Found, NoStrike, Passed, Strike, group}
 use Rattle.judge.specs.Shortlists.{blank, item, listed}
 use Rattle.judge.specs.declared.shortlists.ByCount.{ByCount}
 use Rattle.judge.specs.declared.shortlists.Entry.{Entry}
-use Rattle.runs.specs.Sets.{Selection}
 use Rattle.standard.specs.Meaning.{Meaning}
 
 -- an element as it is read

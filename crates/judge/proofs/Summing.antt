@@ -1,5 +1,5 @@
 -- What a level's shortlists have to show for it.
-use Rattle.std.proofs.Common.{◌≡◌, ℕ, ◌+◌, ◌<◌, ◌≤◌, Bool, true, false, cond, ◌||◌, ltb, List, length, Some, None, Option, sym, refl, ap, ◌∙◌, subst, ⊎_elim, arith, length-take-le, MatchOption}
+use Rattle.std.proofs.Common.{◌≡◌, ℕ, ◌+◌, ◌<◌, ◌≤◌, true, false, cond, ltb, List, length, Some, None, Option, sym, ap, ◌∙◌, ⊎_elim, arith, length-take-le, MatchOption}
 use lib.Count.{ones}
 use Rattle.std.proofs.lemmas.Bool.{cases_order, cond_both, ltb-false, ltb-true, or_cases, or_parts}
 use Rattle.judge.specs.Causes.{FewestStruck, Lightest, SumsUp, summed_up}

@@ -1,5 +1,5 @@
 -- The closed runs of a campaign have one verdict under a standard, and no other.
-use Rattle.std.proofs.Common.{◌≡◌, ℕ, ◌<◌, ◌≤◌, length, sym, refl, ap, subst, ⊎_elim, arith}
+use Rattle.std.proofs.Common.{◌≡◌, ℕ, ◌<◌, ◌≤◌, length, refl, ap, subst, ⊎_elim, arith}
 use Rattle.judge.specs.Judging.{Answers, Barren, Because, Best, Campaign, First, TooFew, code, struck_in_all}
 use Rattle.judge.specs.Sets.{Accurate, Fits}
 use Rattle.judge.specs.declared.verdicts.Cause.{Cause}

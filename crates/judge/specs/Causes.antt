@@ -10,7 +10,6 @@ use Rattle.judge.specs.declared.verdicts.Cause.{Cause}
 use Rattle.standard.specs.Meaning.{Meaning}
 use Rattle.terms.specs.Levels.{at_level}
 use Rattle.terms.specs.declared.levels.Level.{Level}
-use Rattle.terms.specs.declared.levels.Level.TheVariants.{Low, Mid, High}
 use Rattle.terms.specs.declared.levels.Levels.{Levels}
 use Rattle.terms.specs.declared.pairs.Pair.{Pair}
 

@@ -1,5 +1,5 @@
 -- The law of the judge, in plain sight: each of its parts follows from what the verdict says.
-use Rattle.std.specs.Prelude.{◌≡◌, ℕ, ◌≤◌, Bool, ◌↔◌, List, length}
+use Rattle.std.specs.Prelude.{◌≡◌, ℕ, ◌↔◌, List}
 use Rattle.judge.specs.Judging.{Allowed, Answers, Campaign, Enough, Meets, NoWorse, struck_in_all}
 use Rattle.judge.specs.declared.verdicts.Cause.{Cause}
 use Rattle.judge.specs.declared.verdicts.Verdict.{Verdict}

@@ -16,7 +16,6 @@ use Rattle.terms.specs.declared.kinds.Kind.TheVariants.{Ppm, Heat, Diluent}
 use Rattle.terms.specs.declared.kinds.Use.{Use}
 use Rattle.terms.specs.declared.kinds.Use.TheVariants.{Excess, Compliance}
 use Rattle.terms.specs.declared.levels.Level.{Level}
-use Rattle.terms.specs.declared.levels.Levels.{Levels}
 
 -- Absolute, with a margin in units: accurate too where |D| ≤ margin·n. The rest is handed on.
 abbrev pub absolute : ℕ → Meaning → Meaning

@@ -1,6 +1,5 @@
 -- The bias test, from its numbers.
 use Rattle.std.proofs.Common.{◌≡◌, ℕ, ◌-◌, ◌*◌, ◌<◌, ◌≤◌, false, ltb, leb, pos, arith}
-use lib.Signed.{lt_z}
 use Rattle.std.proofs.lemmas.Bool.{and_left, and_right, le-leb, lt-ltb}
 use Rattle.accuracy.specs.Confidence.{confidence_of}
 use Rattle.statistics.specs.Bias.{is_biased}

@@ -1,5 +1,5 @@
 -- The F test on whole numbers.
-use Rattle.std.specs.Prelude.{ℕ, ◌-◌, ◌*◌, min, Bool, ◌&&◌, ◌||◌, [], ◌∷◌, ℤ, pos, ◌*ℤ◌, int_le, nat_le, slice_index}
+use Rattle.std.specs.Prelude.{ℕ, ◌-◌, ◌*◌, min, Bool, ◌&&◌, ◌||◌, [], ◌∷◌, pos, ◌*ℤ◌, int_le, nat_le, slice_index}
 use Rattle.tally.specs.Numbers.{X, Y}
 use Rattle.tally.specs.declared.sums.Sums.{Sums}
 use Rattle.terms.specs.declared.kinds.Kind.{Kind}

@@ -4,7 +4,7 @@ use lib.Signed.{lt_z}
 use Rattle.std.proofs.lemmas.Nat.{mul-le}
 use Rattle.std.proofs.lemmas.Int.{ints}
 use Rattle.std.proofs.lemmas.Bool.{cases_lt}
-use Rattle.tally.specs.Numbers.{D, DD, W, X, Y}
+use Rattle.tally.specs.Numbers.{D, DD, W}
 use Rattle.tally.specs.declared.sums.Sums.{Sums}
 use Rattle.tally.specs.Sums.{Spreads, Tops}
 

@@ -1,4 +1,4 @@
-use Rattle.std.proofs.Common.{◌≡◌, ◌+◌, ◌<◌, List, arith, below_more}
+use Rattle.std.proofs.Common.{◌≡◌, List, arith, below_more}
 use Rattle.judge.specs.Search.{Fewest, NoStrike}
 use Rattle.judge.specs.declared.shortlists.Entry.{Entry}
 use Rattle.judge.proofs.searching.fewest.Goals as goal

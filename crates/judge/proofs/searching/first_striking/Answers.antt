@@ -1,4 +1,4 @@
-use Rattle.std.proofs.Common.{◌≡◌, ℕ, ◌+◌, ◌-◌, ◌<◌, ◌≤◌, length, sym, ap, ◌∙◌, subst, inl, inr, arith, MatchOption}
+use Rattle.std.proofs.Common.{◌+◌, ◌-◌, ◌<◌, ◌≤◌, length, sym, ap, ◌∙◌, subst, inl, inr, arith, MatchOption}
 use Rattle.judge.specs.Search.{Found, NoStrike}
 use Rattle.judge.specs.Shortlists.{item}
 use Rattle.judge.proofs.Passing.{found_here, low_done, next_high, next_low, next_mid, no_more, not_there, not_together, read}

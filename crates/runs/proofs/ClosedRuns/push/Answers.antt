@@ -1,6 +1,5 @@
-use Rattle.std.proofs.Common.{◌≡◌, ap, ◌∙◌, arith, length-set, length-take-le}
+use Rattle.std.proofs.Common.{◌∙◌, arith, length-set, length-take-le}
 use Rattle.std.proofs.lemmas.List.{take_more_set}
-use Rattle.terms.specs.Readings.{highest}
 use Rattle.terms.proofs.Highest.{highest_stored}
 use Rattle.runs.proofs.ClosedRuns.push.Goals as goal
 

@@ -1,4 +1,4 @@
-use Rattle.std.proofs.Common.{◌≡◌, ◌-◌, ◌*◌, ◌≤◌, sym, arith}
+use Rattle.std.proofs.Common.{◌-◌, ◌*◌, ◌≤◌, sym, arith}
 use Rattle.std.proofs.lemmas.Nat.{mul-le}
 use Rattle.statistics.proofs.Biased.{biased_is, not_biased}
 use Rattle.statistics.proofs.Words.{biased_says}

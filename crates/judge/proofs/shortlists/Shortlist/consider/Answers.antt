@@ -1,4 +1,4 @@
-use Rattle.std.proofs.Common.{◌≡◌, ℕ, ◌+◌, ◌<◌, ◌≤◌, true, length, sym, refl, ap, ◌∙◌, subst, arith, length-take-le}
+use Rattle.std.proofs.Common.{◌+◌, ◌≤◌, true, sym, refl, ap, ◌∙◌, subst, arith, length-take-le}
 use borrow.Author.Tests.{clash}
 use lib.Count.{ones}
 use Rattle.judge.specs.Sets.{Accurate, Passes}
