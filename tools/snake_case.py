@@ -1,7 +1,7 @@
 #!/usr/bin/env python3
 """Brings the names of definitions and lemmas to today's spelling: words in snake case, types in camel case.
 
-usage: python3 tools/snake_case.py, once, at the top of the repository, after the kit's own script.
+usage: python3 tools/snake_case.py, at the top of the repository, after the kit's own script.
 
 It renames what specs/ and proofs/*.antt define, and what cites it in clauses and proofs. Names that Rattle makes of the code
 (goals, steps, invariants) and names of the library are left as they are.
@@ -16,6 +16,11 @@ JOINED = {
     "sums-append": "sums_of-append",
     "sumBy-times": "sum_by-times",
     "ones-in": "ones_in-ones",
+}
+
+# A definition in camel case.
+CAMEL = {
+    "meanDifference": "mean_difference",
 }
 
 # Records that are facts.
@@ -69,8 +74,8 @@ def local_names():
 
 
 def main():
-    names = own_names() | local_names()
-    new = {n: FACTS.get(n) or JOINED.get(n) or n.replace("-", "_") for n in names}
+    names = (own_names() | local_names()) - set(JOINED.values()) | set(CAMEL)
+    new = {n: CAMEL.get(n) or FACTS.get(n) or JOINED.get(n) or n.replace("-", "_") for n in names}
     targets = {}
     for n, to in sorted(new.items()):
         if to in targets.values():

@@ -16,8 +16,8 @@ abbrev pub mean : Sums → ℕ → Rational
 mean s sum = pos sum over s.n
 
 -- The mean difference, without its sign.
-abbrev pub meanDifference : Sums → Rational
-meanDifference s = mean s (unsigned_abs (D s))
+abbrev pub mean_difference : Sums → Rational
+mean_difference s = mean s (unsigned_abs (D s))
 
 -- The square of the differences' standard deviation: (Σd² − (Σd)²/n) / (n − 1).
 abbrev pub variance : Sums → Rational
@@ -36,13 +36,13 @@ AtMostConfidence s q = q *ℚ q ≤ℚ t s *ℚ t s *ℚ variance s *ℚ pos 1 o
 abbrev pub RelativeAccuracy : ℕ → Rational → Sums → Type 0
 RelativeAccuracy limit reference s =
     (u v : ℕ) → 0 < v → AtMostConfidence s (pos u over v)
-    → meanDifference s +ℚ pos u over v ≤ℚ pos limit over 100 *ℚ reference
+    → mean_difference s +ℚ pos u over v ≤ℚ pos limit over 100 *ℚ reference
 
 -- A pollutant's predictions are accurate, under an emission standard in units: in at least three runs, by a margin
 -- where the mean prediction is low, and else within 20 percent of the reference, or 10 where it is high.
 pub record Accurate (kind : Kind) (emission : ℕ) (s : Sums) : Type 0 where
   pub enough : 3 ≤ s.n
-  pub low : mean s s.p <ℚ units (marks_of kind).low → meanDifference s ≤ℚ units (marks_of kind).margin
+  pub low : mean s s.p <ℚ units (marks_of kind).low → mean_difference s ≤ℚ units (marks_of kind).margin
   pub middle : units (marks_of kind).low ≤ℚ mean s s.p → mean s s.p ≤ℚ units (marks_of kind).high
       → RelativeAccuracy 20 (mean s (reference_of emission s)) s
   pub high : units (marks_of kind).high <ℚ mean s s.p → RelativeAccuracy 10 (mean s (reference_of emission s)) s

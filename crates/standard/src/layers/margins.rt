@@ -2,7 +2,7 @@
 ghost use Rattle.std.specs.Prelude.{◌≡◌, ◌<◌, ◌≤◌};
 ghost use Rattle.standard.specs.Answers.{AbsoluteAnswer, margin_number};
 ghost use Rattle.standard.specs.Layers.{absolute};
-ghost use Rattle.std.proofs.Common.{rules, arith};
+ghost use Rattle.std.proofs.Common.{rules};
 
 use super::{Absolute, MarginRefusal};
 use crate::standards::Standard;
@@ -33,7 +33,7 @@ impl<S> MarginRefusal<S> {
 impl<S: Standard> Standard for Absolute<S> {
     ghost meaning = { λ s. absolute s.margin (S.Standard.meaning s.below) };
 
-    ghost lawful = { first_of (Prim.search rules, Prim.grind (arith, Self.row.coded.inj)) };
+    ghost lawful = { Prim.search rules };
 
     fn accuracy(&self, level: Level, kept: &Tally) -> bool {
         self.below.accuracy(level, kept) || kept.distance() <= self.margin as u64 * kept.sums.n
