@@ -9,4 +9,4 @@ mod standards;
 pub use layers::{Absolute, MarginRefusal, Statistics, Waiver};
 pub use piles::Ps16;
 pub use plain::{Diluent, Pollutant};
-pub use standards::Standard;
+pub use standards::{Limits, Standard};

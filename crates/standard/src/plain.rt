@@ -2,9 +2,16 @@
 ghost use Rattle.standard.specs.Plain.{diluent, pollutant};
 ghost use Rattle.std.proofs.Common.{rules};
 
-use crate::standards::Standard;
+use crate::standards::{Limits, Standard};
 use tally::Tally;
 use terms::{Head, Level};
+
+// The limits where accuracy alone is asked.
+const ACCURACY_ALONE: Limits = Limits {
+    least_kept: 3,
+    most_struck: 3,
+    most_in_all: 3,
+};
 
 // Relative accuracy under a head's emission standard, by the marks of its kind.
 #[derive(Clone, Copy)]
@@ -29,16 +36,8 @@ impl Standard for Pollutant {
         true
     }
 
-    fn least_kept(&self) -> u32 {
-        3
-    }
-
-    fn most_struck(&self) -> u32 {
-        3
-    }
-
-    fn most_in_all(&self) -> u32 {
-        3
+    fn limits(&self) -> Limits {
+        ACCURACY_ALONE
     }
 }
 
@@ -63,15 +62,7 @@ impl Standard for Diluent {
         true
     }
 
-    fn least_kept(&self) -> u32 {
-        3
-    }
-
-    fn most_struck(&self) -> u32 {
-        3
-    }
-
-    fn most_in_all(&self) -> u32 {
-        3
+    fn limits(&self) -> Limits {
+        ACCURACY_ALONE
     }
 }

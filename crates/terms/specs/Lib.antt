@@ -3,3 +3,4 @@ pub mod Levels
 pub mod Limits
 pub mod Pairs
 pub mod Readings
+pub mod Texts

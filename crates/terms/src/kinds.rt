@@ -1,6 +1,9 @@
 // What a monitor measures, in which unit and up to which reading, and what it is used for.
-ghost use Rattle.std.specs.Prelude.{◌≡◌};
+ghost use Rattle.std.specs.Prelude.{◌≡◌, false};
+ghost use Rattle.std.specs.Range.{range_inclusive_start, range_inclusive_end, range_inclusive_exhausted};
 ghost use Rattle.terms.specs.Limits.{least_emission, most_emission, top_reading};
+
+use std::ops::RangeInclusive;
 
 // A reading is a whole number of units: 0.1 ppm, 0.0001 lb/mm Btu, or 0.01 percent by volume.
 #[derive(Clone, Copy, PartialEq, Eq, Debug)]
@@ -28,13 +31,15 @@ impl Kind {
         }
     }
 
-    // The lowest and the highest emission standard of a kind: a diluent has none, which is written 0.
-    pub(crate) fn emissions(self) -> (u32, u32)
-        ensures { (result.0 ≡ least_emission self) × (result.1 ≡ most_emission self) }
+    // The emission standards of a kind: a diluent has none, which is written 0.
+    pub(crate) fn emissions(self) -> RangeInclusive<u32>
+        ensures from { range_inclusive_start result ≡ least_emission self }
+        ensures to { range_inclusive_end result ≡ most_emission self }
+        ensures fresh { range_inclusive_exhausted result ≡ false }
     {
         match self {
-            Kind::Ppm | Kind::Heat => (1, 50_000),
-            Kind::Diluent => (0, 0),
+            Kind::Ppm | Kind::Heat => 1..=50_000,
+            Kind::Diluent => 0..=0,
         }
     }
 }

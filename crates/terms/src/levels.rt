@@ -1,6 +1,9 @@
 // The three levels of load at which a monitor is held against the reference.
-ghost use Rattle.std.specs.Prelude.{◌≡◌};
+ghost use Rattle.std.specs.Prelude.{◌≡◌, Some};
 ghost use Rattle.terms.specs.Levels.{at_level};
+ghost use Rattle.terms.specs.Texts.{level_name};
+
+use std::fmt;
 
 #[derive(Clone, Copy, PartialEq, Eq, Debug)]
 pub enum Level {
@@ -27,5 +30,17 @@ impl<T> Levels<T> {
             Level::Mid => &self.mid,
             Level::High => &self.high,
         }
+    }
+}
+
+impl fmt::Display for Level {
+    ghost output = { λ level. Some (level_name level) };
+
+    fn fmt<W: fmt::Write>(&self, f: &mut fmt::Formatter<W>) -> fmt::Result {
+        f.write_str(match self {
+            Level::Low => "low",
+            Level::Mid => "mid",
+            Level::High => "high",
+        })
     }
 }

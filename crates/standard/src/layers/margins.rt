@@ -5,7 +5,7 @@ ghost use Rattle.standard.specs.Layers.{absolute};
 ghost use Rattle.std.proofs.Common.{rules};
 
 use super::{Absolute, MarginRefusal};
-use crate::standards::Standard;
+use crate::standards::{Limits, Standard};
 use tally::Tally;
 use terms::Level;
 
@@ -47,15 +47,7 @@ impl<S: Standard> Standard for Absolute<S> {
         self.below.together(low, mid, high)
     }
 
-    fn least_kept(&self) -> u32 {
-        self.below.least_kept()
-    }
-
-    fn most_struck(&self) -> u32 {
-        self.below.most_struck()
-    }
-
-    fn most_in_all(&self) -> u32 {
-        self.below.most_in_all()
+    fn limits(&self) -> Limits {
+        self.below.limits()
     }
 }

@@ -4,7 +4,7 @@ ghost use Rattle.standard.specs.Layers.{is_past_mending, statistics};
 ghost use Rattle.std.proofs.Common.{rules};
 
 use super::Statistics;
-use crate::standards::Standard;
+use crate::standards::{Limits, Standard};
 use statistics::{are_correlated, is_biased, is_steady};
 use tally::Tally;
 use terms::Level;
@@ -28,16 +28,12 @@ impl<S: Standard> Standard for Statistics<S> {
         self.below.together(low, mid, high) && are_correlated(low, mid, high)
     }
 
-    fn least_kept(&self) -> u32 {
-        9
-    }
-
-    fn most_struck(&self) -> u32 {
-        3
-    }
-
-    fn most_in_all(&self) -> u32 {
-        9
+    fn limits(&self) -> Limits {
+        Limits {
+            least_kept: 9,
+            most_struck: 3,
+            most_in_all: 9,
+        }
     }
 }
 

@@ -4,7 +4,7 @@ ghost use Rattle.standard.specs.Layers.{unwaived, waiver};
 ghost use Rattle.std.proofs.Common.{rules};
 
 use super::Waiver;
-use crate::standards::Standard;
+use crate::standards::{Limits, Standard};
 use statistics::is_waived;
 use tally::Tally;
 use terms::{Head, Level};
@@ -43,16 +43,8 @@ impl<S: Standard> Standard for Waiver<S> {
         )
     }
 
-    fn least_kept(&self) -> u32 {
-        self.below.least_kept()
-    }
-
-    fn most_struck(&self) -> u32 {
-        self.below.most_struck()
-    }
-
-    fn most_in_all(&self) -> u32 {
-        self.below.most_in_all()
+    fn limits(&self) -> Limits {
+        self.below.limits()
     }
 }
 

@@ -9,11 +9,10 @@ impl Head {
     pub fn new(kind: Kind, usage: Use, emission: u32, span: u32) -> Result<Head, HeadRefusal>
         ensures { HeadAnswer kind usage emission span result }
     {
-        let (least, most) = kind.emissions();
-        if emission < least || emission > most {
+        if !kind.emissions().contains(&emission) {
             return Err(HeadRefusal::Emission);
         }
-        if span < 1 || span > kind.top() {
+        if !(1..=kind.top()).contains(&span) {
             return Err(HeadRefusal::Span);
         }
         Ok(Head {
