@@ -12,6 +12,10 @@ pub enum Level {
     High,
 }
 
+impl Level {
+    pub const ALL: [Level; 3] = [Level::Low, Level::Mid, Level::High];
+}
+
 // One thing for each level.
 #[derive(Clone, Copy, PartialEq, Eq, Debug, Drop)]
 pub struct Levels<T> {
