@@ -45,15 +45,9 @@ impl ClosedRuns {
         ensures answer { PushAnswer self.old pair self.new result }
         ensures highest { OnOk result (highest (pairs_of self.new) ≡ max (highest (pairs_of self.old)) (higher pair)) }
     {
-        let at = self.count;
-        if at >= 12 {
-            return Err(PairRefusal::Full);
-        }
-        if pair.reference > 50_000 || pair.predicted > 50_000 {
-            return Err(PairRefusal::OverTop);
-        }
-        self.runs[at] = pair;
-        self.count = at + 1;
+        pair.admit(self.count)?;
+        self.runs[self.count] = pair;
+        self.count += 1;
         Ok(())
     }
 
@@ -80,8 +74,5 @@ fn take_in(tally: &mut Tally, pair: &Pair)
     requires within { higher pair.now ≤ 50000 }
     ensures { tally.new.sums ≡ plus tally.old.sums (sums_of (pair.now ∷ [])) }
 {
-    match tally.add(pair) {
-        Ok(()) => {}
-        Err(_) => unreachable(),
-    }
+    tally.add(pair).unwrap();
 }

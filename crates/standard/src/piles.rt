@@ -38,10 +38,7 @@ impl Ps16 {
 fn absolute_diluent() -> Absolute<Diluent>
     ensures { result.margin ≡ 100 }
 {
-    match Absolute::over(Diluent, 100) {
-        Ok(standard) => standard,
-        Err(_) => unreachable(),
-    }
+    Absolute::over(Diluent, 100).unwrap()
 }
 
 // The statistical tests over a standard, waived where the references are low.
