@@ -23,7 +23,7 @@ pub struct Head {
 #[derive(Clone, Copy, PartialEq, Eq, Debug)]
 pub enum HeadRefusal {
     // The emission standard is out of range.
-    Emission,
+    Emission = 10,
     // The span is out of range.
-    Span,
+    Span = 11,
 }
