@@ -8,22 +8,22 @@ use crate::BegunRun;
 #[derive(Clone, Copy, PartialEq, Eq, Debug)]
 pub enum BeginRefusal {
     // A run is begun.
-    RunBegun,
+    RunBegun = 20,
     // 99 runs were begun.
-    NoNumber,
+    NoNumber = 22,
     // The level has twelve closed runs.
-    LevelFull,
+    LevelFull = 21,
 }
 
 // Why a run is not closed.
 #[derive(Clone, Copy, PartialEq, Eq, Debug)]
 pub enum CloseFault {
     // It is not the run now begun.
-    NotCurrent,
+    NotCurrent = 23,
     // The reference reading is over the top.
-    Reference,
+    Reference = 24,
     // The predicted reading is over the top.
-    Predicted,
+    Predicted = 25,
 }
 
 // The run that is not closed, handed back, and why.
@@ -42,11 +42,7 @@ impl BeginRefusal {
     pub fn number(self) -> u32
         ensures { result ≡ begin_number self }
     {
-        match self {
-            BeginRefusal::RunBegun => 20,
-            BeginRefusal::NoNumber => 22,
-            BeginRefusal::LevelFull => 21,
-        }
+        self as u32
     }
 }
 
@@ -55,10 +51,6 @@ impl CloseFault {
     pub fn number(self) -> u32
         ensures { result ≡ close_number self }
     {
-        match self {
-            CloseFault::NotCurrent => 23,
-            CloseFault::Reference => 24,
-            CloseFault::Predicted => 25,
-        }
+        self as u32
     }
 }

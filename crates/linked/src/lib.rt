@@ -11,8 +11,8 @@ use fractions::Fraction;
 pub extern "C" fn curatsef_correlated(x: u64, y: u64, z: u64) -> bool
     ensures { result ≡ correlated x y z }
 {
-    let most = 1 << 58;
-    if x == 0 || y == 0 || z == 0 || x > most || y > most || z > most {
+    let range = 1..=1 << 58;
+    if !range.contains(&x) || !range.contains(&y) || !range.contains(&z) {
         return false;
     }
     let slope = Fraction { top: z, bottom: x };
