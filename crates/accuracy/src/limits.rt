@@ -51,7 +51,7 @@ pub(crate) fn reference(emission: u32, tally: &Tally) -> u64
     ensures value { result ≡ reference_of emission tally.now.sums }
     ensures top { result ≤ 600000 }
 {
-    let least = tally.sums.n * emission as u64;
+    let least = tally.sums.n * u64::from(emission);
     if 2 * tally.sums.r < least {
         least
     } else {

@@ -47,11 +47,8 @@ fn is_within(tally: &Tally, limit: u64, reference: u64) -> bool
     let Some(confidence) = confidence(tally) else {
         return false;
     };
-    let whole = limit * reference;
-    let part = 100 * tally.distance();
-    if whole < part {
+    let Some(left) = (limit * reference).checked_sub(100 * tally.distance()) else {
         return false;
-    }
-    let left = whole - part;
+    };
     confidence <= 100 * (tally.sums.n - 1) * (left * left)
 }
