@@ -22,11 +22,7 @@ pub fn pollutant(head: &Head, tally: &Tally) -> bool
     if tally.sums.p < marks.low * n {
         return tally.distance() <= marks.margin * n;
     }
-    is_within(
-        tally,
-        limit(head.kind, tally),
-        reference(head.emission, tally),
-    )
+    is_within(tally, limit(head.kind, tally), reference(head, tally))
 }
 
 // Whether a diluent's predictions are accurate.

@@ -1,15 +1,12 @@
 -- Without a shared spread there is no correlation.
-use Rattle.std.proofs.Common.{◌≡◌, ℕ, zero, suc, ◌*◌, ◌<◌, mul-pos, false, ℤ, pos, ◌≤ℤ◌, sym, ap, ◌∙◌, arith}
+use Rattle.std.proofs.Common.{◌≡◌, ℕ, zero, suc, ◌*◌, ◌<◌, mul-pos, false, pos, ◌≤ℤ◌, sym, ap, ◌∙◌, arith}
 use lib.Signed.{lt_z}
-use Rattle.std.proofs.lemmas.Int.{ints}
 use Rattle.std.proofs.lemmas.Bool.{and_left, and_right}
 use Rattle.statistics.specs.Correlation.{is_correlated}
 use Rattle.tally.specs.Numbers.{X, Y, Z}
 use Rattle.tally.specs.Tallying.{SharedSpread}
+use Rattle.tally.proofs.Numbers.{not_above}
 use Rattle.tally.specs.declared.sums.Sums.{Sums}
-
-not_above : (z : ℤ) → z ≤ℤ pos 0 → lt_z (pos 0) z ≡ false
-not_above z h = grind (arith, ints)
 
 pub not_correlated : {s t : Sums} → t ≡ s → Z t ≤ℤ pos 0 → false ≡ is_correlated s
 not_correlated {s} {t} is h =
