@@ -1,6 +1,5 @@
 // The confidence coefficient of a level's differences.
-ghost use Rattle.std.specs.Prelude.{◌≡◌, ◌≤◌};
-ghost use Rattle.accuracy.specs.Confidence.{ConfidenceAnswer, student};
+ghost use Rattle.accuracy.specs.Confidence.{ConfidenceAnswer};
 
 use tally::Tally;
 
@@ -11,17 +10,7 @@ const STUDENT: [u64; 10] = [4303, 3182, 2776, 2571, 2447, 2365, 2306, 2262, 2228
 pub fn confidence(tally: &Tally) -> Option<u64>
     ensures { ConfidenceAnswer tally.now.sums result }
 {
-    if tally.sums.n < 3 {
-        return None;
-    }
-    let t = student_at(tally.sums.n);
+    let beyond_three = tally.sums.n.checked_sub(3)?;
+    let t = STUDENT[beyond_three as usize];
     Some(t * t * tally.difference_spread())
-}
-
-fn student_at(n: u64) -> u64
-    requires { (3 ≤ n) × (n ≤ 12) }
-    ensures value { result ≡ student n }
-    ensures top { result ≤ 4303 }
-{
-    STUDENT[n as usize - 3]
 }

@@ -3,7 +3,7 @@ ghost use Rattle.std.specs.Prelude.{◌≡◌, ◌≤◌};
 ghost use Rattle.accuracy.specs.Accuracy.{limit_of, marks_of, reference_of};
 
 use tally::Tally;
-use terms::Kind;
+use terms::{Head, Kind};
 
 // In units a run: predictions above the high mark are held to 10 percent, those below the low mark to the margin.
 #[derive(Clone, Copy)]
@@ -46,12 +46,11 @@ pub(crate) fn limit(kind: Kind, tally: &Tally) -> u64
 }
 
 // What the limit is of: the references, or the emission standard where they are below half of it.
-pub(crate) fn reference(emission: u32, tally: &Tally) -> u64
-    requires { emission ≤ 50000 }
-    ensures value { result ≡ reference_of emission tally.now.sums }
+pub(crate) fn reference(head: &Head, tally: &Tally) -> u64
+    ensures value { result ≡ reference_of head.now.emission tally.now.sums }
     ensures top { result ≤ 600000 }
 {
-    let least = tally.sums.n * emission as u64;
+    let least = tally.sums.n * u64::from(head.emission);
     if 2 * tally.sums.r < least {
         least
     } else {

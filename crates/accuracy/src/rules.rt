@@ -22,11 +22,7 @@ pub fn pollutant(head: &Head, tally: &Tally) -> bool
     if tally.sums.p < marks.low * n {
         return tally.distance() <= marks.margin * n;
     }
-    is_within(
-        tally,
-        limit(head.kind, tally),
-        reference(head.emission, tally),
-    )
+    is_within(tally, limit(head.kind, tally), reference(head, tally))
 }
 
 // Whether a diluent's predictions are accurate.
@@ -47,11 +43,8 @@ fn is_within(tally: &Tally, limit: u64, reference: u64) -> bool
     let Some(confidence) = confidence(tally) else {
         return false;
     };
-    let whole = limit * reference;
-    let part = 100 * tally.distance();
-    if whole < part {
+    let Some(left) = (limit * reference).checked_sub(100 * tally.distance()) else {
         return false;
-    }
-    let left = whole - part;
+    };
     confidence <= 100 * (tally.sums.n - 1) * (left * left)
 }

@@ -49,7 +49,7 @@ module _ {most : ℕ} (s : Sums) (tops : Tops most s) (spreads : Spreads s) wher
 
     -- where the predictions are low, the test is on the square of the difference
     test : 3 ≤ s.n → is_biased s ≡ ltb g (1000000 * (s.n - 1) * (d * d))
-    test enough = biased_is s g enough confidence_is low
+    test enough = biased_is s g d enough confidence_is (omega arith)
 
     biased_words : 3 ≤ s.n → is_biased s ≡ true → Biased s
     biased_words enough e = record {

@@ -14,9 +14,8 @@ pub fn is_biased(tally: &Tally) -> bool
     let Some(confidence) = confidence(tally) else {
         return false;
     };
-    if tally.sums.r <= tally.sums.p {
+    let Some(difference) = tally.sums.r.checked_sub(tally.sums.p) else {
         return false;
-    }
-    let difference = tally.sums.r - tally.sums.p;
+    };
     confidence < 1_000_000 * (tally.sums.n - 1) * (difference * difference)
 }

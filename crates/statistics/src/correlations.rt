@@ -17,9 +17,6 @@ pub fn are_correlated(low: &Tally, mid: &Tally, high: &Tally) -> bool
     };
     let x = joined.reference_spread();
     let y = joined.predicted_spread();
-    if x == 0 || y == 0 {
-        return false;
-    }
     let slope = Fraction { top: z, bottom: x };
     let least = Fraction {
         top: 16 * y,

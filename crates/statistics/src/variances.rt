@@ -1,6 +1,6 @@
 // The F test: whether the predictions of a level vary no more than the references.
 ghost use Rattle.std.specs.Prelude.{◌≡◌, ◌-◌, ◌*◌, ◌≤◌, true, ◌||◌, ◌↔◌, nat_le};
-ghost use Rattle.statistics.specs.Variance.{critical_f, floor_of, is_steady};
+ghost use Rattle.statistics.specs.Variance.{floor_of, is_steady};
 ghost use Rattle.statistics.specs.Words.{Steady};
 
 use tally::Tally;
@@ -16,12 +16,13 @@ pub fn is_steady(head: &Head, tally: &Tally) -> bool
     ensures words { (result ≡ true) ↔ Steady head.now.kind head.now.span tally.now.sums }
 {
     let n = tally.sums.n;
-    if n < 9 {
+    let Some(beyond_nine) = n.checked_sub(9) else {
         return false;
-    }
+    };
+    let f = CRITICAL[beyond_nine as usize];
     let x = tally.reference_spread();
     let y = tally.predicted_spread();
-    passes(n, x, y, critical_at(n), floor(head))
+    passes(n, x, y, f, floor(head))
 }
 
 // The F test of n runs with the spreads x and y of their references and predictions, by the critical value f and the floor g.
@@ -36,20 +37,12 @@ fn passes(n: u64, x: u64, y: u64, f: u64, g: u64) -> bool
     1000 * y <= f * x || 10_000_000 * y <= f * (n * (n - 1)) * (g * g)
 }
 
-fn critical_at(n: u64) -> u64
-    requires { (9 ≤ n) × (n ≤ 12) }
-    ensures value { result ≡ critical_f n }
-    ensures top { result ≤ 3438 }
-{
-    CRITICAL[n as usize - 9]
-}
-
 // The least deviation of the references that counts, in hundredths of a unit.
 fn floor(head: &Head) -> u64
     ensures value { result ≡ floor_of head.now.kind head.now.span }
     ensures top { result ≤ 150000 }
 {
-    let g = 3 * head.span as u64;
+    let g = 3 * u64::from(head.span);
     match head.kind {
         Kind::Ppm => g.min(5000),
         Kind::Heat | Kind::Diluent => g,

@@ -12,10 +12,10 @@ pub fn is_waived(head: &Head, tally: &Tally) -> bool
 {
     let n = tally.sums.n;
     let r = tally.sums.r;
-    let is_low = 20 * r < n * head.emission as u64;
+    let is_low = 20 * r < n * u64::from(head.emission);
     match head.kind {
         Kind::Ppm => r < 100 * n || is_low,
         Kind::Heat => is_low,
-        Kind::Diluent => 100 * r < 3 * (n * head.span as u64),
+        Kind::Diluent => 100 * r < 3 * (n * u64::from(head.span)),
     }
 }

@@ -1,5 +1,5 @@
 -- The numbers made from a tally's sums, as naturals.
-use Rattle.std.proofs.Common.{◌≡◌, ℕ, ◌+◌, ◌-◌, ◌*◌, ◌<◌, ◌≤◌, true, false, ◌⊎◌, ℤ, pos, negsuc, ◌-ℤ◌, ◌*ℤ◌, nat_abs, sym, refl, ap, ◌∙◌, subst, inl, inr, ⊎_elim, le_of_lt, add-sub_of_le, arith}
+use Rattle.std.proofs.Common.{◌≡◌, ℕ, ◌+◌, ◌-◌, ◌*◌, ◌≤◌, false, ◌⊎◌, ℤ, pos, negsuc, ◌-ℤ◌, ◌*ℤ◌, ◌≤ℤ◌, nat_abs, sym, refl, ap, ◌∙◌, subst, inl, inr, ⊎_elim, le_of_lt, add-sub_of_le, arith}
 use lib.Signed.{lt_z}
 use Rattle.std.proofs.lemmas.Nat.{mul-le}
 use Rattle.std.proofs.lemmas.Int.{ints}
@@ -11,14 +11,8 @@ use Rattle.tally.specs.Sums.{Spreads, Tops}
 pub minus_is : (a b x : ℕ) → x + b ≡ a → pos a -ℤ pos b ≡ pos x
 minus_is a b x e = omega (arith, ints)
 
-pub minus_top : (a b x : ℕ) → pos a -ℤ pos b ≡ pos x → x ≤ a
-minus_top a b x e = omega (arith, ints)
-
-pub not_above : (a b : ℕ) → a ≤ b → lt_z (pos 0) (pos a -ℤ pos b) ≡ false
-not_above a b h = grind (arith, ints)
-
-pub above : (a b : ℕ) → b < a → lt_z (pos 0) (pos a -ℤ pos b) ≡ true
-above a b h = grind (arith, ints)
+pub not_above : (z : ℤ) → z ≤ℤ pos 0 → lt_z (pos 0) z ≡ false
+not_above z h = grind (arith, ints)
 
 pub square_is : (z : ℤ) → z *ℤ z ≡ pos (nat_abs z * nat_abs z)
 square_is (pos n) = refl
@@ -57,6 +51,3 @@ module _ {most : ℕ} (s : Sums) (tops : Tops most s) (spreads : Spreads s) (d :
       let same : pos w ≡ pos v = sym e ∙ W_is v (omega (arith, distance_fits)) in
       let top : s.rr + s.pp - 2 * s.rp ≤ most * 5000000000 = omega (arith, tops) in
       omega (arith, ints, mul-le _ _ _ _ tops.0.0 top)
-
-  pub distance_top : d ≤ most * 50000
-  distance_top = omega (arith, ints, tops)

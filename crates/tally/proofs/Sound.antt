@@ -140,8 +140,8 @@ pub joined : {a b c : Sums} → TallyOf 12 a → TallyOf 12 b → TallyOf 12 c �
 joined x y z = joined_two (joined_two x y) z
 
 -- a tally with room takes one pair more
-pub one_more : {s : Sums} (q : Pair) → TallyOf 12 s → s.n < 12 → higher q ≤ 50000 → TallyOf 12 (plus s (sums_of (q ∷ [])))
-one_more {s} q h room within = ∥∥₁_map h (λ u.
+pub one_more : {s t : Sums} (q : Pair) → TallyOf 12 s → s.n < 12 → higher q ≤ 50000 → t ≡ plus s (sums_of (q ∷ [])) → TallyOf 12 t
+one_more {s} q h room within is = subst (TallyOf 12) (sym is) (∥∥₁_map h (λ u.
     let n : s.n ≡ length u.0 = ap (λ (x : Sums). x.n) u.1.sums in
     let fewer : Tallies 11 s u.0 = record { few = omega (arith, n); within = u.1.within; sums = u.1.sums } in
-    (u.0 ++ q ∷ [], joined_lists {k = 1} u.0 (q ∷ []) fewer (record { few = omega arith; within = omega arith; sums = refl })))
+    (u.0 ++ q ∷ [], joined_lists {k = 1} u.0 (q ∷ []) fewer (record { few = omega arith; within = omega arith; sums = refl }))))

@@ -1,14 +1,18 @@
 -- What taking pairs into a tally answers, and what the shared spread is.
 use Rattle.std.specs.Prelude.{◌≡◌, ℕ, ◌+◌, ◌*◌, ◌<◌, ◌≤◌, List, [], ◌∷◌, length, pos, ◌≤ℤ◌, Some, None, Ok, Err, Option, Result, refl}
-use Rattle.std.proofs.Common.{zero-le}
+use Rattle.std.proofs.Common.{zero-le, arith}
 use Rattle.tally.specs.Numbers.{X, Y, Z}
 use Rattle.tally.specs.Sums.{Tallies, none, plus, sums_of}
 use Rattle.tally.specs.declared.sums.Sums.{Sums}
-use Rattle.tally.specs.declared.tallies.Tally.{Tally}
+use Rattle.tally.specs.declared.totals.Totals.{Totals}
 use Rattle.terms.specs.Pairs.{Refuses}
 use Rattle.terms.specs.Readings.{higher, highest}
 use Rattle.terms.specs.declared.pairs.Pair.{Pair}
 use Rattle.terms.specs.declared.pairs.PairRefusal.{PairRefusal}
+
+-- the totals of at most twelve pairs
+abbrev pub Tally : Type 0
+Tally = Totals 12
 
 -- The pair is taken in, or refused with all as it was.
 abbrev pub AddAnswer : Tally → Pair → Tally → Result (Unit {0}) PairRefusal → Type 0
@@ -36,6 +40,7 @@ SharedAnswer s None = Z s ≤ℤ pos 0
 abbrev pub empty : Tally
 empty = record {
   sums = none;
+  few = omega arith;
   real = ∣ ([], record { few = zero-le; within = zero-le; sums = refl }) ∣₁;
   tops = ((zero-le, zero-le, zero-le), (zero-le, zero-le, zero-le), (zero-le, zero-le, zero-le));
   spreads = ((zero-le, zero-le), (zero-le, zero-le));

@@ -1,10 +1,8 @@
 // Exact sums over the pairs of a level, and over those of three levels together.
 #![tactic(auto)]
 
-mod joins;
 mod sums;
-mod tallies;
+mod totals;
 
-pub use joins::Joined;
 pub use sums::Sums;
-pub use tallies::Tally;
+pub use totals::{Joined, Tally, Totals};

@@ -1,7 +1,7 @@
 use Rattle.std.proofs.Common.{arith}
 use Rattle.std.proofs.lemmas.Result.{err_from_is_err_and}
 use Rattle.tally.proofs.Sound.{refused_more, taken_all, taken_more}
-use Rattle.tally.proofs.tallies.Tally.of.Goals as goal
+use Rattle.tally.proofs.totals.taking.Tally.of.Goals as goal
 
 pub returns-in_err-add : goal.returns-in_err-add
 returns-in_err-add c =

@@ -12,7 +12,9 @@ impl Tally {
     pub fn none() -> Tally
         ensures { result.sums ≡ none }
     {
-        Tally { sums: Sums::NONE }
+        Tally {
+            sums: Sums::default(),
+        }
     }
 
     // Of the pairs of a slice, unless there are too many or a reading is over 50,000.
@@ -33,14 +35,19 @@ impl Tally {
     pub fn add(&mut self, pair: &Pair) -> Result<(), PairRefusal>
         ensures { AddAnswer self.old pair.now self.new result }
     {
-        if self.sums.n >= 12 {
-            return Err(PairRefusal::Full);
-        }
-        if pair.reference > 50_000 || pair.predicted > 50_000 {
-            return Err(PairRefusal::OverTop);
-        }
+        let sums = self.sums;
+        pair.admit(sums.n as usize)?;
+        let r = u64::from(pair.reference);
+        let p = u64::from(pair.predicted);
         *self = Tally {
-            sums: self.sums.with(pair),
+            sums: Sums {
+                n: sums.n + 1,
+                r: sums.r + r,
+                p: sums.p + p,
+                rr: sums.rr + r * r,
+                pp: sums.pp + p * p,
+                rp: sums.rp + r * p,
+            },
         };
         Ok(())
     }

@@ -1,6 +1,6 @@
 use Rattle.std.proofs.Common.{take}
 use Rattle.tally.specs.Sums.{Tallies}
-use Rattle.tally.proofs.tallies.Tally.of.Given as goal
+use Rattle.tally.proofs.totals.taking.Tally.of.Given as goal
 
 -- the tally is that of the pairs so far
 abbrev pub invariant-loop-pair : goal.invariant-loop-pair
