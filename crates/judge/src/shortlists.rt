@@ -15,8 +15,6 @@ pub(crate) struct Entry {
 // most three of twelve runs: 1 + 12 + 66 + 220.
 #[derive(Drop)]
 pub(crate) struct Shortlist {
-    pub(crate) from: u32,
-    pub(crate) to: u32,
     pub(crate) entries: [Entry; 299],
     pub(crate) len: usize,
     pub(crate) accurate: bool,
@@ -24,11 +22,9 @@ pub(crate) struct Shortlist {
     ghost few: { len ≤ 299 },
 }
 
-// A level's sets, by how many they strike.
+// A level's sets, by how many they strike, from none to three.
 #[derive(Drop)]
 pub(crate) struct ByCount {
-    pub(crate) none: Shortlist,
-    pub(crate) one: Shortlist,
-    pub(crate) two: Shortlist,
-    pub(crate) three: Shortlist,
+    pub(crate) groups: [Shortlist; 4],
+    ghost four: { length groups ≡ 4 },
 }
