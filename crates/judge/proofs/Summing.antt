@@ -1,17 +1,17 @@
 -- What a level's shortlists have to show for it.
-use Rattle.std.proofs.Common.{◌≡◌, ℕ, zero, suc, ◌+◌, ◌<◌, ◌≤◌, Bool, true, false, not, cond, ltb, ◌⊎◌, [], ◌∷◌, length, get_or, map, replicate, Some, None, sym, refl, ap, ◌∙◌, inl, inr, ⊎_elim, arith, length-take-le, List, min}
+use Rattle.std.proofs.Common.{◌≡◌, ℕ, zero, suc, ◌+◌, ◌<◌, ◌≤◌, Bool, true, false, not, cond, ltb, eqb, ◌⊎◌, [], ◌∷◌, length, get_or, map, Some, None, sym, refl, ap, ◌∙◌, inl, inr, ⊎_elim, arith, List, min}
 use lib.Count.{ones}
 use Rattle.std.specs.List.{list_any, position, position_or_len, reduce, fold}
-use Rattle.std.proofs.lemmas.Bool.{cases_lt, cond-true, cond_both, false_from_ne_true, lt-ltb, ltb-false, ltb-true}
+use Rattle.std.proofs.lemmas.Bool.{not-false, cases_lt, cond-true, cond_both, false_from_ne_true, lt-ltb, eqb-false, eqb-true, not-true}
 use borrow.Author.Tests.{clash}
-use Rattle.std.proofs.lemmas.List.{get_or-map, length-replicate}
+use Rattle.std.proofs.lemmas.List.{get_or-map}
 use Rattle.std.proofs.lemmas.Option.{none-some}
 use Rattle.std.proofs.lemmas.List.Folds.{Any-from_list_any, list_any_at}
 use Rattle.std.proofs.lemmas.List.Quantifiers.{position-Some}
 use Rattle.judge.specs.Causes.{Lightest, Wants}
 use Rattle.judge.specs.Search.{Groups, accurate_in, group}
 use Rattle.judge.specs.Sets.{Accurate, Fits, Passes}
-use Rattle.judge.specs.Shortlists.{Whole, blank, item, listed}
+use Rattle.judge.specs.Shortlists.{Whole, item, listed}
 use Rattle.judge.specs.declared.shortlists.ByCount.{ByCount}
 use Rattle.judge.specs.declared.shortlists.Entry.{Entry}
 use Rattle.judge.specs.declared.shortlists.Shortlist.{Shortlist}
@@ -67,7 +67,7 @@ position-None p lists d is k h =
 
 -- a list that stands for any
 no_list : Shortlist
-no_list = record { entries = replicate 299 blank; len = 0; accurate = false; room = length-replicate 299 blank; few = omega arith }
+no_list = record { entries = record { items = [] }; accurate = false }
 
 module _ (m : Meaning) (lawful : Lawful m) (at : Level) (runs : List Pair) where
   three : (set : ℕ) → Fits m runs set → ones set ≤ 3
@@ -111,16 +111,14 @@ module _ (m : Meaning) (lawful : Lawful m) (at : Level) (runs : List Pair) where
   module _ (lows : ByCount) (w : Groups m at runs lows) where
     -- whether a group has any set
     abbrev has_any : Shortlist → Bool
-    has_any list = ltb 0 list.len
+    has_any list = not (eqb (length (listed list)) 0)
 
     abbrev has_accurate : Shortlist → Bool
     has_accurate list = list.accurate
 
     module _ (n : ℕ) (h : n ≤ 3) (d : Shortlist) where
-      size : length (group lows n) ≡ (get_or lows.groups n d).len
-      size =
-          let list = get_or lows.groups n d in
-          ap length (get_or-map listed lows.groups n d [] (omega (arith, lows.four))) ∙ length-take-le list.len list.entries (omega arith)
+      size : length (group lows n) ≡ length (listed (get_or lows.groups n d))
+      size = ap length (get_or-map listed lows.groups n d [] (omega (arith, lows.four)))
 
       accurate_is : accurate_in lows n ≡ (get_or lows.groups n d).accurate
       accurate_is = get_or-map has_accurate lows.groups n d false (omega (arith, lows.four))
@@ -128,14 +126,14 @@ module _ (m : Meaning) (lawful : Lawful m) (at : Level) (runs : List Pair) where
       none_in : has_any (get_or lows.groups n d) ≡ false → (set : ℕ) → ones set ≡ n → Fits m runs set → Passes m at runs set → ⊥
       none_in none set is fits passes =
           let found = (w n h).complete set fits.closed (omega arith, omega arith) fits passes in
-          omega (arith, found.1, size, ltb-false 0 (get_or lows.groups n d).len none)
+          omega (arith, found.1, size, eqb-true (length (listed (get_or lows.groups n d))) 0 (not-false _ none))
 
     -- The first group that has any is the fewest.
     pub groups_lightest : (n : ℕ) → position has_any lows.groups ≡ Some n → Lightest m at runs n
     groups_lightest n is =
         let first = position-Some has_any lows.groups n no_list is in
         let h : n ≤ 3 = omega (arith, first.0, lows.four) in
-        let any : 0 < length (group lows n) = omega (arith, size n h no_list, ltb-true 0 (get_or lows.groups n no_list).len first.1) in
+        let any : 0 < length (group lows n) = omega (arith, size n h no_list, eqb-false (length (listed (get_or lows.groups n no_list))) 0 (not-true _ first.1)) in
         let here = (w n h).listed 0 any in
         let range = (w n h).between 0 any in
         record {

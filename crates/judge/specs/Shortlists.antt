@@ -1,5 +1,5 @@
 -- The sets of a level that fit and get both yeses, and how far a list of them has come.
-use Rattle.std.specs.Prelude.{◌≡◌, ℕ, zero, suc, ◌+◌, ◌^◌, ◌<◌, ◌≤◌, Bool, true, false, cond, List, length, take, count_ones, nat_le, slice_index_or}
+use Rattle.std.specs.Prelude.{◌≡◌, ℕ, zero, suc, ◌+◌, ◌^◌, ◌<◌, ◌≤◌, Bool, true, false, cond, List, length, count_ones, nat_le, slice_index_or}
 use Rattle.std.specs.Int.Count.{ones_in}
 use Rattle.judge.specs.Sets.{Accurate, Fits, Passes}
 use Rattle.judge.specs.declared.shortlists.Entry.{Entry}
@@ -12,7 +12,7 @@ use Rattle.terms.specs.declared.levels.Level.{Level}
 use Rattle.terms.specs.declared.pairs.Pair.{Pair}
 
 abbrev pub listed : Shortlist → List Entry
-listed list = take list.len list.entries
+listed list = list.entries.items
 
 abbrev pub blank : Entry
 blank = record { set = 0; struck = 0; kept = empty }

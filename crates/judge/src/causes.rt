@@ -1,5 +1,6 @@
 // Why no allowed selection meets a standard.
-ghost use Rattle.std.specs.Prelude.{◌≡◌, List, if◌then◌else◌, map, min, nat_lt};
+ghost use Rattle.std.specs.Prelude.{◌≡◌, List, if◌then◌else◌, map, min, not, ◌==◌};
+ghost use Rattle.arrayvec.specs.ArrayVec.{array_vec_len};
 ghost use Rattle.std.specs.List.{list_any, position, reduce};
 ghost use Rattle.judge.specs.Causes.{Shows, ShowsInAll};
 ghost use Rattle.judge.specs.Judging.{Because, Campaign};
@@ -51,9 +52,9 @@ impl ByCount {
 
     // The first group that has any set.
     fn least(&self) -> Option<usize>
-        ensures { result ≡ position (λ list. nat_lt 0 list.len) self.now.groups }
+        ensures { result ≡ position (λ list. not (array_vec_len list.entries == 0)) self.now.groups }
     {
-        self.groups.iter().position(|list| list.len > 0)
+        self.groups.iter().position(|list| !list.entries.is_empty())
     }
 
     fn accurate(&self) -> bool

@@ -1,5 +1,5 @@
 // How a level's sets are gone through, each asked accuracy and statistics once.
-ghost use Rattle.std.specs.Prelude.{◌≡◌, ◌+◌, ◌^◌, ◌<◌, false, [], ◌∷◌, ◌++◌, length, MatchBool};
+ghost use Rattle.std.specs.Prelude.{◌≡◌, ◌+◌, ◌^◌, ◌<◌, false, length, MatchBool};
 ghost use Rattle.std.specs.Range.{range_inclusive_start, range_inclusive_end, range_inclusive_exhausted};
 ghost use Rattle.judge.specs.Search.{Groups};
 ghost use Rattle.judge.specs.Sets.{Fits};
@@ -7,10 +7,10 @@ ghost use Rattle.judge.specs.Shortlists.{Between, Gathered, Whole, listed};
 ghost use Rattle.runs.specs.Closed.{pairs_of};
 
 use crate::shortlists::{ByCount, Entry, Shortlist};
+use arrayvec::ArrayVec;
 use runs::ClosedRuns;
 use standard::Standard;
 use std::ops::RangeInclusive;
-use tally::Tally;
 use terms::Level;
 
 // The closed runs of a level, and the standard by which sets of them are struck.
@@ -41,7 +41,10 @@ impl<S: Standard> Candidates<'_, S> {
         requires fresh { range_inclusive_exhausted strikes ≡ false }
         ensures { Whole (S.meaning self.now.standard.now) self.now.level (pairs_of self.now.runs.now) (range_inclusive_start strikes) (range_inclusive_end strikes) result }
     {
-        let mut list = Shortlist::empty();
+        let mut list = Shortlist {
+            entries: ArrayVec::new(),
+            accurate: false,
+        };
         for set in 0..(1u32 << self.runs.len()) {
             self.consider(set, &strikes, &mut list);
         }
@@ -77,7 +80,7 @@ impl<S: Standard> Candidates<'_, S> {
         }
         list.accurate = true;
         if self.standard.statistics(self.level, &kept) {
-            list.push(Entry {
+            list.entries.push(Entry {
                 set,
                 struck: set.count_ones() as u8,
                 kept,
@@ -87,35 +90,10 @@ impl<S: Standard> Candidates<'_, S> {
 }
 
 impl Shortlist {
-    fn empty() -> Shortlist
-        ensures { (result.len ≡ 0) × (result.accurate ≡ false) }
-    {
-        let blank = Entry {
-            set: 0,
-            struck: 0,
-            kept: Tally::none(),
-        };
-        Shortlist {
-            entries: [blank; 299],
-            len: 0,
-            accurate: false,
-        }
-    }
-
-    fn push(&mut self, entry: Entry)
-        requires { self.old.len < 299 }
-        ensures last { listed self.new ≡ listed self.old ++ entry ∷ [] }
-        ensures same { self.new.accurate ≡ self.old.accurate }
-    {
-        let at = self.len;
-        self.entries[at] = entry;
-        self.len = at + 1;
-    }
-
     // The sets of the list.
     pub(crate) fn items(&self) -> &[Entry]
         ensures { result.now ≡ listed self.now }
     {
-        &self.entries[0..self.len]
+        self.entries.as_slice()
     }
 }

@@ -1,4 +1,4 @@
-use Rattle.std.proofs.Common.{◌+◌, ◌≤◌, true, sym, refl, ap, ◌∙◌, subst, arith, length-take-le}
+use Rattle.std.proofs.Common.{◌+◌, ◌≤◌, true, sym, refl, ap, ◌∙◌, subst, arith}
 use Rattle.std.specs.Range.{range_inclusive_start, range_inclusive_end}
 use borrow.Author.Tests.{clash}
 use lib.Count.{ones}
@@ -26,9 +26,7 @@ push-requires g c =
     let self = c.args.self.now in
     let fits = c.if-not-takes.ensures.1 in
     let most = (g.met.S.Standard.lawful self.standard.now).struck_to in
-    let list = c.args.list.now in
-    let long = length-take-le list.len list.entries (omega arith) in
-    room c.args.set _ (below_4096 _ _ (few_pairs self.runs.now) c.requires.closed) (omega (arith, fits.strikes)) (omega (arith, c.requires.begun.few))
+    (omega arith, room c.args.set _ (below_4096 _ _ (few_pairs self.runs.now) c.requires.closed) (omega (arith, fits.strikes)) (omega (arith, c.requires.begun.few)))
 
 pub returns-then-statistics : goal.returns-then-statistics
 returns-then-statistics g c =
@@ -50,8 +48,7 @@ returns-then-statistics g c =
     let entry : Listed m at runs e = record { fits = taken.1; passes = passes; struck = refl; tallied = tallied } in
     let three : ones set ≤ 3 = omega (arith, taken.1.strikes, (g.met.S.Standard.lawful self.standard.now).struck_to) in
     let grown = taken_in m at runs from to set (listed list) list.accurate c.requires.begun e refl taken.0 entry (below_4096 _ _ (few_pairs self.runs.now) c.requires.closed) three in
-    subst (λ b. Upto m at runs from to (set + 1) (listed c.push.new.self) b) (sym c.push.ensures.same)
-    (subst (λ items. Upto m at runs from to (set + 1) items true) (sym c.push.ensures.last) grown)
+    subst (λ items. Upto m at runs from to (set + 1) items true) (sym c.push.ensures.items) grown
 
 pub returns-else-statistics : goal.returns-else-statistics
 returns-else-statistics g c =
