@@ -1,11 +1,12 @@
 -- Why none meets the standard, from what each level has to show.
-use Rattle.std.proofs.Common.{◌≡◌, ℕ, ◌+◌, ◌<◌, ◌≤◌, Bool, true, false, cond, Some, None, sym, refl, arith}
-use Rattle.std.proofs.lemmas.Option.{MatchOption-at_none, MatchOption-at_some}
-use Rattle.judge.specs.Causes.{Lightest, SumsUp}
-use Rattle.judge.specs.Judging.{Barren, Because, Campaign, First}
-use Rattle.judge.specs.Sets.{Accurate, Fits, Passes}
-use Rattle.judge.specs.declared.causes.Summary.{Summary}
-use Rattle.judge.specs.declared.verdicts.Cause.TheVariants.{Accuracy, Statistics, TooMany, Together}
+use Rattle.std.proofs.Common.{◌≡◌, ℕ, ◌+◌, ◌<◌, ◌≤◌, true, false, ltb, [], ◌∷◌, length, Some, None, Option, sym, subst, ⊎_elim, arith, MatchOption}
+use Rattle.std.specs.List.{find}
+use Rattle.std.proofs.lemmas.Bool.{cond_both, ltb-false, ltb-true}
+use Rattle.judge.specs.Causes.{Lightest, LightestInAll, Wants}
+use Rattle.judge.specs.Judging.{Barren, Because, Campaign, Enough, First, TooFew}
+use Rattle.judge.specs.Sets.{Fits, Passes}
+use Rattle.judge.specs.declared.verdicts.Cause.{Cause}
+use Rattle.judge.specs.declared.verdicts.Cause.TheVariants.{TooMany, Together}
 use Rattle.judge.proofs.Groups.{by_level}
 use Rattle.runs.specs.Sets.{Selection}
 use Rattle.standard.specs.Meaning.{Meaning}
@@ -14,52 +15,47 @@ use Rattle.terms.specs.declared.levels.Level.{Level}
 use Rattle.terms.specs.declared.levels.Level.TheVariants.{Low, Mid, High}
 
 module _ (m : Meaning) (c : Campaign) where
-  -- one level
-  module _ (at : Level) (u : Summary) (sums : SumsUp m at (at_level c at) u) where
-    pub barren : u.fewest ≡ None → Barren m c at
-    barren none = MatchOption-at_none _ _ none sums.fewest
+  pub fruitful : (at : Level) (n : ℕ) → Lightest m at (at_level c at) n → Barren m c at → ⊥
+  fruitful at n light none = none light.set light.fits light.passes
 
-    pub lightest : (n : ℕ) → u.fewest ≡ Some n → Lightest m at (at_level c at) n
-    lightest n some = MatchOption-at_some _ _ n some sums.fewest
-
-    pub fruitful : (n : ℕ) → u.fewest ≡ Some n → Barren m c at → ⊥
-    fruitful n some none = let l = lightest n some in none l.set l.fits l.passes
-
-    -- which of the two yeses is wanting at the first level where no set gets both
-    pub wanting : First (Barren m c) at → Because m c (cond u.accurate (Statistics at) (Accuracy at))
-    wanting first =
-        let either : (b : Bool) → (b ≡ true → (set : ℕ) × Fits m (at_level c at) set × Accurate m at (at_level c at) set)
-        → (b ≡ false → (set : ℕ) → Fits m (at_level c at) set → Accurate m at (at_level c at) set → ⊥) → Because m c (cond b (Statistics at) (Accuracy at)) =
-        λ b yea nay. elim b as (λ v. v ≡ b → Because m c (cond v (Statistics at) (Accuracy at))) [ true ↦ λ e. (first, yea (sym e)) | false ↦ λ e. (first, nay (sym e)) ] refl in
-        either u.accurate sums.some sums.none
+  -- The first level with no set that gets both yeses is to blame.
+  pub blamed : (at : Level) (why : Cause) → Wants m at (at_level c at) why → First (Barren m c) at → Because m c why
+  blamed at why wants first =
+      ⊎_elim (λ a. subst (Because m c) (sym a.0) (first, a.1)) (λ s. subst (Because m c) (sym s.0) (first, s.1)) wants.which
 
   -- all three
-  module _ (u v w : Summary) (low : SumsUp m Low c.low u) (mid : SumsUp m Mid c.mid v) (high : SumsUp m High c.high w) (i j k : ℕ) (ui : u.fewest ≡ Some i) (vj : v.fewest ≡ Some j) (wk : w.fewest ≡ Some k) where
-    none_barren : (at : Level) → Barren m c at → ⊥
-    none_barren = by_level (λ at. Barren m c at → ⊥) (fruitful Low u low i ui) (fruitful Mid v mid j vj) (fruitful High w high k wk)
+  pub in_all : (i j k : ℕ) → Lightest m Low c.low i → Lightest m Mid c.mid j → Lightest m High c.high k → LightestInAll m c (i + j + k)
+  in_all i j k low mid high =
+      let x : Selection = record { low = low.set; mid = mid.set; high = high.set } in
+      record {
+        none_barren = by_level (λ at. Barren m c at → ⊥) (fruitful Low i low) (fruitful Mid j mid) (fruitful High k high);
+        chosen = x;
+        fits = by_level (λ at. Fits m (at_level c at) (at_level x at)) low.fits mid.fits high.fits;
+        passes = by_level (λ at. Passes m at (at_level c at) (at_level x at)) low.passes mid.passes high.passes;
+        is = omega (arith, low.is, mid.is, high.is);
+        least = λ y fits passes.
+            let a = low.least y.low (fits Low) (passes Low) in
+            let b = mid.least y.mid (fits Mid) (passes Mid) in
+            let d = high.least y.high (fits High) (passes High) in
+            omega arith;
+      }
 
-    -- even the fewest are too many
-    pub too_many : m.most_in_all < i + j + k → Because m c TooMany
-    too_many over = (
-      none_barren,
-      λ x fits passes.
-          let a = (lightest Low u low i ui).least x.low (fits Low) (passes Low) in
-          let b = (lightest Mid v mid j vj).least x.mid (fits Mid) (passes Mid) in
-          let d = (lightest High w high k wk).least x.high (fits High) (passes High) in
-          omega arith,
-    )
+  -- even the fewest are too many
+  pub too_many : (n : ℕ) → LightestInAll m c n → m.most_in_all < n → Because m c TooMany
+  too_many n light over = (light.none_barren, λ x fits passes. omega (arith, light.least x fits passes))
 
-    -- the fewest are few enough
-    pub not_together : i + j + k ≤ m.most_in_all → Because m c Together
-    not_together within =
-        let a = lightest Low u low i ui in
-        let b = lightest Mid v mid j vj in
-        let d = lightest High w high k wk in
-        let x : Selection = record { low = a.set; mid = b.set; high = d.set } in (
-          none_barren,
-          (
-            x,
-            record { fits = by_level (λ at. Fits m (at_level c at) (at_level x at)) a.fits b.fits d.fits; in_all = omega (arith, a.is, b.is, d.is) },
-            by_level (λ at. Passes m at (at_level c at) (at_level x at)) a.passes b.passes d.passes,
-          ),
-        )
+  -- the fewest are few enough
+  pub not_together : (n : ℕ) → LightestInAll m c n → n ≤ m.most_in_all → Because m c Together
+  not_together n light within =
+      (light.none_barren, (light.chosen, record { fits = light.fits; in_all = omega (arith, light.is) }, light.passes))
+
+  -- the first level that has too few, if any has
+  pub first_short : MatchOption (find (λ at. ltb (length (at_level c at)) m.least_kept) (Low ∷ Mid ∷ High ∷ [])) (Enough m c) (First (TooFew m c))
+  first_short =
+      let many : (at : Level) → ltb (length (at_level c at)) m.least_kept ≡ false → TooFew m c at → ⊥ = λ at e few. omega (arith, ltb-false (length (at_level c at)) m.least_kept e) in
+      let few : (at : Level) → ltb (length (at_level c at)) m.least_kept ≡ true → TooFew m c at = λ at e. ltb-true (length (at_level c at)) m.least_kept e in
+      let Right : Option Level → Type 0 = λ r. MatchOption r (Enough m c) (First (TooFew m c)) in
+      cond_both (ltb (length c.low) m.least_kept) (Some Low) _ Right (few Low)
+      (λ low. cond_both (ltb (length c.mid) m.least_kept) (Some Mid) _ Right (λ mid. (many Low low, few Mid mid))
+      (λ mid. cond_both (ltb (length c.high) m.least_kept) (Some High) None Right (λ high. (many Low low, many Mid mid, few High high))
+      (λ high. by_level (λ at. TooFew m c at → ⊥) (many Low low) (many Mid mid) (many High high))))

@@ -3,9 +3,9 @@ use Rattle.std.proofs.Common.{◌≡◌, ℕ, ◌+◌, ◌<◌, ◌≤◌, lengt
 use lib.Count.{ones}
 use Rattle.std.proofs.lemmas.Bool.{cases_order}
 use Rattle.judge.specs.Judging.{AllFit, AllPass, Allowed, Best, Campaign, Enough, Meets, code, left_at, struck_in_all}
-use Rattle.judge.specs.Search.{Fewest, Groups, NoneBelow, Strike, group}
+use Rattle.judge.specs.Search.{Fewest, NoneBelow, Searches, Strike, group}
 use Rattle.judge.specs.Sets.{Fits, Passes}
-use Rattle.judge.specs.Shortlists.{Listed, Whole, item, listed}
+use Rattle.judge.specs.Shortlists.{Listed, item, listed}
 use Rattle.judge.specs.declared.shortlists.ByCount.{ByCount}
 use Rattle.judge.specs.declared.shortlists.Entry.{Entry}
 use Rattle.judge.specs.declared.shortlists.Shortlist.{Shortlist}
@@ -18,10 +18,10 @@ use Rattle.terms.specs.Levels.{at_level}
 use Rattle.terms.specs.declared.levels.Level.{Level}
 use Rattle.terms.specs.declared.levels.Level.TheVariants.{Low, Mid, High}
 
-module _ (m : Meaning) (lawful : Lawful m) (c : Campaign) (lows : ByCount) (mids highs : Shortlist) (wl : Groups m Low c.low lows) (wm : Whole m Mid c.mid 0 3 mids) (wh : Whole m High c.high 0 3 highs) where
+module _ (m : Meaning) (lawful : Lawful m) (c : Campaign) (lows : ByCount) (mids highs : Shortlist) (s : Searches m c lows mids highs) where
   -- what stands at a place of each level
   abbrev low_at : ℕ → ℕ → Entry
-  low_at rest i = item (listed (group lows rest)) i
+  low_at rest i = item (group lows rest) i
 
   abbrev mid_at : ℕ → Entry
   mid_at j = item (listed mids) j
@@ -38,16 +38,16 @@ module _ (m : Meaning) (lawful : Lawful m) (c : Campaign) (lows : ByCount) (mids
 
   module _ (n i j k : ℕ) (here : Here n i j k) where
     low_listed : Listed m Low c.low (low_at here.rest i)
-    low_listed = (wl here.rest here.few).upto.listed i here.low
+    low_listed = (s.low here.rest here.few).listed i here.low
 
     mid_listed : Listed m Mid c.mid (mid_at j)
-    mid_listed = wm.upto.listed j here.mid
+    mid_listed = s.mid.listed j here.mid
 
     high_listed : Listed m High c.high (high_at k)
-    high_listed = wh.upto.listed k here.high
+    high_listed = s.high.listed k here.high
 
     low_count : ones (low_at here.rest i).set ≡ here.rest
-    low_count = let b = (wl here.rest here.few).upto.between i here.low in omega arith
+    low_count = let b = (s.low here.rest here.few).between i here.low in omega arith
 
     -- what is struck at three places is allowed and meets the standard
     module _ (x : Selection) (el : x.low ≡ (low_at here.rest i).set) (em : x.mid ≡ (mid_at j).set) (eh : x.high ≡ (high_at k).set) where
@@ -72,7 +72,7 @@ module _ (m : Meaning) (lawful : Lawful m) (c : Campaign) (lows : ByCount) (mids
     pub j : ℕ
     pub k : ℕ
     pub few : ones y.low ≤ 3
-    pub low : i < length (listed (group lows (ones y.low)))
+    pub low : i < length (group lows (ones y.low))
     pub mid : j < length (listed mids)
     pub high : k < length (listed highs)
     pub low_set : (low_at (ones y.low) i).set ≡ y.low
@@ -82,16 +82,16 @@ module _ (m : Meaning) (lawful : Lawful m) (c : Campaign) (lows : ByCount) (mids
   pub stands : (y : Selection) → AllFit m c y → AllPass m c y → Stands y
   stands y fits passes =
       let three : (at : Level) → ones (at_level y at) ≤ 3 = λ at. omega (arith, (fits at).strikes, lawful.struck_to) in
-      let a = (wl (ones y.low) (three Low)).upto.complete y.low (fits Low).closed (omega arith, omega arith) (fits Low) (passes Low) in
-      let b = wm.upto.complete y.mid (fits Mid).closed (omega arith, three Mid) (fits Mid) (passes Mid) in
-      let d = wh.upto.complete y.high (fits High).closed (omega arith, three High) (fits High) (passes High) in
+      let a = (s.low (ones y.low) (three Low)).complete y.low (fits Low).closed (omega arith, omega arith) (fits Low) (passes Low) in
+      let b = s.mid.complete y.mid (fits Mid).closed (omega arith, three Mid) (fits Mid) (passes Mid) in
+      let d = s.high.complete y.high (fits High).closed (omega arith, three High) (fits High) (passes High) in
       record { i = a.0; j = b.0; k = d.0; few = three Low; low = a.1; mid = b.1; high = d.1; low_set = a.2; mid_set = b.2; high_set = d.2 }
 
   pub meets_here : (y : Selection) (p : Stands y) → Meets m c y → Here (struck_in_all y) p.i p.j p.k
   meets_here y p meets =
-      let a = (wl (ones y.low) p.few).upto.listed p.i p.low in
-      let b = wm.upto.listed p.j p.mid in
-      let d = wh.upto.listed p.k p.high in
+      let a = (s.low (ones y.low) p.few).listed p.i p.low in
+      let b = s.mid.listed p.j p.mid in
+      let d = s.high.listed p.k p.high in
       record {
         rest = ones y.low;
         count = omega (arith, b.struck, d.struck, ap ones p.mid_set, ap ones p.high_set);
@@ -121,8 +121,8 @@ module _ (m : Meaning) (lawful : Lawful m) (c : Campaign) (lows : ByCount) (mids
     -- among those that strike as many, none comes before
     as_many : (y : Selection) (p : Stands y) (here : Here n p.i p.j p.k) → struck_in_all y ≡ n → code x ≤ code y
     as_many y p here e =
-        let b = wm.upto.listed p.j p.mid in
-        let d = wh.upto.listed p.k p.high in
+        let b = s.mid.listed p.j p.mid in
+        let d = s.high.listed p.k p.high in
         let own : ones y.low ≡ here.rest = omega (arith, here.count, b.struck, d.struck, ap ones p.mid_set, ap ones p.high_set) in
         let xl : x.low < 4096 = below_4096 x.low _ (short Low) (allowed.fits Low).closed in
         let xm : x.mid < 4096 = below_4096 x.mid _ (short Mid) (allowed.fits Mid).closed in
@@ -146,15 +146,15 @@ module _ (m : Meaning) (lawful : Lawful m) (c : Campaign) (lows : ByCount) (mids
         (λ ei. let el = ap (λ i. (low_at z.here.rest i).set) ei in omega arith)
         (⊎_elim
         (λ before. absurd (not_before (inr (ek, inr (ej, before)))))
-        (λ after. let r = (wl z.here.rest z.here.few).upto.rising z.i p.i after (subst (λ r. p.i < length (listed (group lows r))) rest here.low) in omega arith))
+        (λ after. let r = (s.low z.here.rest z.here.few).rising z.i p.i after (subst (λ r. p.i < length (group lows r)) rest here.low) in omega arith))
         (cases_order p.i z.i))
         (⊎_elim
         (λ before. absurd (not_before (inr (ek, inl before))))
-        (λ after. let r = wm.upto.rising z.j p.j after p.mid in omega arith))
+        (λ after. let r = s.mid.rising z.j p.j after p.mid in omega arith))
         (cases_order p.j z.j))
         (⊎_elim
         (λ before. absurd (not_before (inl before)))
-        (λ after. let r = wh.upto.rising z.k p.k after p.high in omega arith))
+        (λ after. let r = s.high.rising z.k p.k after p.high in omega arith))
         (cases_order p.k z.k)
 
   pub fewest_best : ((at : Level) → length (at_level c at) ≤ 12) → Enough m c → (x : Selection) (n : ℕ) → Fewest m lows (listed mids) (listed highs) x n → Best m c x n

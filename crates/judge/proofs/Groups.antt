@@ -1,5 +1,6 @@
--- Numbers up to three, and levels, one by one.
-use Rattle.std.proofs.Common.{ℕ, zero, suc, ◌≤◌, arith}
+-- Numbers up to three, levels, and a test's answers, one by one.
+use Rattle.std.proofs.Common.{◌≡◌, ℕ, zero, suc, ◌≤◌, Bool, true, false, refl, arith}
+use Rattle.std.specs.Bool.{MatchBool}
 use Rattle.terms.specs.declared.levels.Level.{Level}
 use Rattle.terms.specs.declared.levels.Level.TheVariants.{Low, Mid, High}
 
@@ -14,3 +15,8 @@ pub by_level : (P : Level → Type 0) → P Low → P Mid → P High → (at : L
 by_level P low mid high Low = low
 by_level P low mid high Mid = mid
 by_level P low mid high High = high
+
+-- what holds of a test's answer
+pub either : (b : Bool) (P Q : Type 0) → (b ≡ true → P) → (b ≡ false → Q) → MatchBool b P Q
+either true P Q here there = here refl
+either false P Q here there = there refl

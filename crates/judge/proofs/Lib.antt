@@ -5,7 +5,6 @@ pub mod Found
 pub mod Groups
 pub mod Growing
 pub mod Lawful
-pub mod Lightest
 pub mod Passing
 pub mod Summing
 pub mod Unique

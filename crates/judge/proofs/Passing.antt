@@ -4,7 +4,7 @@ use borrow.Author.Tests.{clash}
 use Rattle.std.proofs.lemmas.List.{get_or_read}
 use Rattle.std.proofs.lemmas.Bool.{cases_lt}
 use Rattle.judge.specs.Search.{Found, NoStrike, Passed, Strike, group}
-use Rattle.judge.specs.Shortlists.{blank, item, listed}
+use Rattle.judge.specs.Shortlists.{blank, item}
 use Rattle.judge.specs.declared.shortlists.ByCount.{ByCount}
 use Rattle.judge.specs.declared.shortlists.Entry.{Entry}
 use Rattle.standard.specs.Meaning.{Meaning}
@@ -75,22 +75,22 @@ module _ (m : Meaning) (lows : ByCount) (mids highs : List Entry) (total : ℕ) 
 
     module _ (rest : ℕ) (count : rest + mid.struck + high.struck ≡ total) (few : rest ≤ 3) where
       abbrev beside : List Entry
-      beside = listed (group lows rest)
+      beside = group lows rest
 
       rest_is : (i : ℕ) (here : Here i j k) → here.rest ≡ rest
       rest_is i here = omega (arith, struck_are i here)
 
       -- every low entry is passed
       pub low_done : (n : ℕ) → length beside ≤ n → (i : ℕ) → Here i j k → i < n
-      low_done n all i here = omega (arith, here.low, ap (λ x. length (listed (group lows x))) (rest_is i here))
+      low_done n all i here = omega (arith, here.low, ap (λ x. length (group lows x)) (rest_is i here))
 
       module _ (i : ℕ) (low : Entry) (low_is : item beside i ≡ low) where
         asked : (here : Here i j k) → m.together low.kept.sums mid.kept.sums high.kept.sums ≡ true
         asked here =
-            let same : item (listed (group lows here.rest)) i ≡ low = ap (λ x. item (listed (group lows x)) i) (rest_is i here) ∙ low_is in
+            let same : item (group lows here.rest) i ≡ low = ap (λ x. item (group lows x) i) (rest_is i here) ∙ low_is in
             subst (λ (e : Entry). m.together e.kept.sums mid.kept.sums high.kept.sums ≡ true) same
-            (subst (λ (e : Entry). m.together (item (listed (group lows here.rest)) i).kept.sums e.kept.sums high.kept.sums ≡ true) mid_is
-            (subst (λ (e : Entry). m.together (item (listed (group lows here.rest)) i).kept.sums (item mids j).kept.sums e.kept.sums ≡ true) high_is here.together))
+            (subst (λ (e : Entry). m.together (item (group lows here.rest) i).kept.sums e.kept.sums high.kept.sums ≡ true) mid_is
+            (subst (λ (e : Entry). m.together (item (group lows here.rest) i).kept.sums (item mids j).kept.sums e.kept.sums ≡ true) high_is here.together))
 
         -- together's answer is no
         pub not_together : m.together low.kept.sums mid.kept.sums high.kept.sums ≡ false → Here i j k → ⊥

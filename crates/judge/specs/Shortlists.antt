@@ -1,27 +1,18 @@
 -- The sets of a level that fit and get both yeses, and how far a list of them has come.
-use Rattle.std.specs.Prelude.{◌≡◌, ℕ, zero, suc, ◌+◌, ◌^◌, ◌<◌, ◌≤◌, Bool, true, false, cond, List, length, take, count_ones, nat_le, slice_index_or}
+use Rattle.std.specs.Prelude.{◌≡◌, ℕ, zero, suc, ◌+◌, ◌^◌, ◌<◌, ◌≤◌, Bool, true, false, cond, List, length, count_ones, nat_le, slice_index_or}
 use Rattle.std.specs.Int.Count.{ones_in}
 use Rattle.judge.specs.Sets.{Accurate, Fits, Passes}
-use Rattle.judge.specs.declared.listing.Standing.{Standing}
-use Rattle.judge.specs.declared.listing.Standing.TheVariants.{Inaccurate, Unsteady, Passing}
 use Rattle.judge.specs.declared.shortlists.Entry.{Entry}
 use Rattle.judge.specs.declared.shortlists.Shortlist.{Shortlist}
 use Rattle.runs.specs.Sets.{kept}
 use Rattle.standard.specs.Meaning.{Meaning}
 use Rattle.tally.specs.Sums.{sums_of}
 use Rattle.tally.specs.Tallying.{empty}
-use Rattle.tally.specs.declared.sums.Sums.{Sums}
 use Rattle.terms.specs.declared.levels.Level.{Level}
 use Rattle.terms.specs.declared.pairs.Pair.{Pair}
 
--- how kept runs do at their level
-abbrev pub Stands : Meaning → Level → Sums → Standing → Type 0
-Stands m at s Inaccurate = m.accuracy at s ≡ false
-Stands m at s Unsteady = (m.accuracy at s ≡ true) × (m.statistics at s ≡ false)
-Stands m at s Passing = (m.accuracy at s ≡ true) × (m.statistics at s ≡ true)
-
 abbrev pub listed : Shortlist → List Entry
-listed list = take list.len list.entries
+listed list = list.entries.items
 
 abbrev pub blank : Entry
 blank = record { set = 0; struck = 0; kept = empty }
@@ -57,10 +48,8 @@ pub record Upto (m : Meaning) (at : Level) (runs : List Pair) (from to n : ℕ) 
   pub none : accurate ≡ false → (set : ℕ) → set < n → Between from to set → Fits m runs set → Accurate m at runs set → ⊥
 
 -- a shortlist that has come so far
-pub record Gathered (m : Meaning) (at : Level) (runs : List Pair) (from to n : ℕ) (list : Shortlist) : Type 0 where
-  pub from_is : list.from ≡ from
-  pub to_is : list.to ≡ to
-  pub upto : Upto m at runs from to n (listed list) list.accurate
+abbrev pub Gathered : Meaning → Level → List Pair → ℕ → ℕ → ℕ → Shortlist → Type 0
+Gathered m at runs from to n list = Upto m at runs from to n (listed list) list.accurate
 
 -- and has come to the end
 abbrev pub Whole : Meaning → Level → List Pair → ℕ → ℕ → Shortlist → Type 0

@@ -1,101 +1,94 @@
 // Why no allowed selection meets a standard.
-ghost use Rattle.std.specs.Prelude.{◌≡◌, if◌then◌else◌};
-ghost use Rattle.judge.specs.Causes.{FewestStruck, RightCause, fewer_of, summed_up};
-ghost use Rattle.judge.specs.Shortlists.{listed};
+ghost use Rattle.std.specs.Prelude.{◌≡◌, List, if◌then◌else◌, map, min, not, ◌==◌};
+ghost use Rattle.arrayvec.specs.ArrayVec.{array_vec_len};
+ghost use Rattle.std.specs.List.{list_any, position, reduce};
+ghost use Rattle.judge.specs.Causes.{Shows, ShowsInAll};
+ghost use Rattle.judge.specs.Judging.{Because, Campaign};
+ghost use Rattle.judge.specs.Search.{Groups, Searches};
+ghost use Rattle.judge.specs.Shortlists.{Whole, listed};
 ghost use Rattle.judge.specs.declared.verdicts.Cause.TheVariants.{Accuracy, Statistics};
+ghost use Rattle.standard.specs.Meaning.{Lawful, Meaning};
+ghost use Rattle.terms.specs.declared.pairs.Pair.{Pair};
 
+use crate::searching::Search;
 use crate::shortlists::{ByCount, Shortlist};
 use crate::verdicts::Cause;
-use terms::{Level, Levels};
+use standard::Standard;
+use terms::Level;
 
-// Whether any fitting set of a level is accurate, and the fewest that one with both yeses strikes, if any has.
-#[derive(Clone, Copy)]
-pub(crate) struct Summary {
-    pub(crate) accurate: bool,
-    pub(crate) fewest: Option<u8>,
-}
-
-impl Shortlist {
-    pub(crate) fn summary(&self) -> Summary
-        ensures accurate { result.accurate ≡ self.now.accurate }
-        ensures fewest { FewestStruck (listed self.now) result.fewest }
+impl<S: Standard> Search<'_, S> {
+    // The first level with no set that gets both yeses is to blame; else, whether even the fewest struck are too many in all.
+    pub(crate) fn cause(&self) -> Cause
+        ensures { (c : Campaign) → Searches (S.meaning self.now.standard.now) c self.now.low self.now.mid self.now.high → Because (S.meaning self.now.standard.now) c result }
     {
-        let mut fewest = None;
-        for entry in self.items() {
-            fewest = fewer(fewest, entry.struck);
+        match self.fewest_in_all() {
+            Err(cause) => cause,
+            Ok(fewest) if fewest > self.standard.limits().most_in_all => Cause::TooMany,
+            Ok(_) => Cause::Together,
         }
-        Summary {
-            accurate: self.accurate,
-            fewest,
-        }
+    }
+
+    // The fewest that sets with both yeses strike in all, together or not.
+    fn fewest_in_all(&self) -> Result<u32, Cause>
+        ensures { (c : Campaign) → Searches (S.meaning self.now.standard.now) c self.now.low self.now.mid self.now.high → ShowsInAll (S.meaning self.now.standard.now) c result }
+    {
+        let low = self.low.fewest(Level::Low)?;
+        let mid = self.mid.fewest(Level::Mid)?;
+        let high = self.high.fewest(Level::High)?;
+        Ok(u32::from(low) + u32::from(mid) + u32::from(high))
     }
 }
 
 impl ByCount {
-    pub(crate) fn summary(&self) -> Summary
-        ensures { result ≡ summed_up self.now }
+    // The fewest that a set strikes, or which of the two yeses is wanting at the level.
+    fn fewest(&self, level: Level) -> Result<u8, Cause>
+        ensures { (m : Meaning) (runs : List Pair) → Lawful m → Groups m level runs self.now → Shows m level runs result }
     {
-        let fewest = if self.none.len > 0 {
-            Some(0)
-        } else if self.one.len > 0 {
-            Some(1)
-        } else if self.two.len > 0 {
-            Some(2)
-        } else if self.three.len > 0 {
-            Some(3)
-        } else {
-            None
-        };
-        Summary {
-            accurate: self.none.accurate
-                || self.one.accurate
-                || self.two.accurate
-                || self.three.accurate,
-            fewest,
+        match self.least() {
+            Some(count) => Ok(count as u8),
+            None => Err(wanting(level, self.accurate())),
         }
+    }
+
+    // The first group that has any set.
+    fn least(&self) -> Option<usize>
+        ensures { result ≡ position (λ list. not (array_vec_len list.entries == 0)) self.now.groups }
+    {
+        self.groups.iter().position(|list| !list.entries.is_empty())
+    }
+
+    fn accurate(&self) -> bool
+        ensures { result ≡ list_any (λ list. list.accurate) self.now.groups }
+    {
+        self.groups.iter().any(|list| list.accurate)
     }
 }
 
-// The cause, from what each level has to show: at the first level with no set that gets both yeses, which of the two is
-// wanting; and else whether even the fewest struck are too many in all.
-pub(crate) fn cause(levels: Levels<Summary>, most_in_all: u32) -> Cause
-    ensures { RightCause levels most_in_all result }
+impl Shortlist {
+    // The same of a list of all sets.
+    fn fewest(&self, level: Level) -> Result<u8, Cause>
+        ensures { (m : Meaning) (runs : List Pair) → Lawful m → Whole m level runs 0 3 self.now → Shows m level runs result }
+    {
+        match self.least() {
+            Some(fewest) => Ok(fewest),
+            None => Err(wanting(level, self.accurate)),
+        }
+    }
+
+    fn least(&self) -> Option<u8>
+        ensures { result ≡ reduce min (map (λ e. e.struck) (listed self.now)) }
+    {
+        self.items().iter().map(|entry| entry.struck).min()
+    }
+}
+
+// Which of the two yeses is wanting at a level where no fitting set gets both.
+fn wanting(level: Level, accurate: bool) -> Cause
+    ensures { result ≡ (if accurate then Statistics level else Accuracy level) }
 {
-    let Some(low) = levels.low.fewest else {
-        return levels.low.wanting(Level::Low);
-    };
-    let Some(mid) = levels.mid.fewest else {
-        return levels.mid.wanting(Level::Mid);
-    };
-    let Some(high) = levels.high.fewest else {
-        return levels.high.wanting(Level::High);
-    };
-    if u32::from(low) + u32::from(mid) + u32::from(high) > most_in_all {
-        Cause::TooMany
+    if accurate {
+        Cause::Statistics(level)
     } else {
-        Cause::Together
-    }
-}
-
-impl Summary {
-    // Which of the two yeses is wanting at a level where no fitting set gets both.
-    fn wanting(self, level: Level) -> Cause
-        ensures { result ≡ (if self.accurate then Statistics level else Accuracy level) }
-    {
-        if self.accurate {
-            Cause::Statistics(level)
-        } else {
-            Cause::Accuracy(level)
-        }
-    }
-}
-
-// The smaller of two numbers, the first of which may be wanting.
-fn fewer(fewest: Option<u8>, struck: u8) -> Option<u8>
-    ensures { result ≡ fewer_of fewest struck }
-{
-    match fewest {
-        None => Some(struck),
-        Some(least) => Some(least.min(struck)),
+        Cause::Accuracy(level)
     }
 }

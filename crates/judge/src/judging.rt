@@ -1,12 +1,13 @@
 // The verdict on the closed runs of three levels.
-ghost use Rattle.std.specs.Prelude.{◌≡◌, MatchOption};
-ghost use Rattle.judge.specs.Judging.{Answers, Enough, First, TooFew};
+ghost use Rattle.std.specs.Prelude.{◌≡◌, [], ◌∷◌, length, nat_lt};
+ghost use Rattle.std.specs.List.{find};
+ghost use Rattle.judge.specs.Judging.{Answers};
 ghost use Rattle.judge.specs.Law.{Law};
-ghost use Rattle.runs.specs.Closed.{lists_of};
+ghost use Rattle.runs.specs.Closed.{lists_of, pairs_of};
+ghost use Rattle.terms.specs.Levels.{at_level};
+ghost use Rattle.terms.specs.declared.levels.Level.TheVariants.{Low, Mid, High};
 
-use crate::causes::cause;
-use crate::searching::fewest;
-use crate::shortlists::{ByCount, Shortlist};
+use crate::searching::Search;
 use crate::verdicts::Verdict;
 use runs::ClosedRuns;
 use standard::Standard;
@@ -22,37 +23,22 @@ pub fn judge<S: Standard>(standard: &S, closed: &Levels<ClosedRuns>) -> Verdict
 fn weigh<S: Standard>(standard: &S, closed: &Levels<ClosedRuns>) -> Verdict
     ensures { Answers (S.meaning standard.now) (lists_of closed.now) result }
 {
-    if let Some(level) = short(standard, closed) {
+    if let Some(level) = short(standard.limits().least_kept, closed) {
         return Verdict::Short(level);
     }
-    let low = ByCount::new(standard, Level::Low, &closed.low);
-    let mid = Shortlist::new(standard, Level::Mid, &closed.mid, 0, 3);
-    let high = Shortlist::new(standard, Level::High, &closed.high, 0, 3);
-    match fewest(standard, &low, &mid, &high) {
+    let search = Search::new(standard, closed);
+    match search.fewest() {
         Some((selection, struck)) => Verdict::Certified(selection, struck),
-        None => {
-            let levels = Levels {
-                low: low.summary(),
-                mid: mid.summary(),
-                high: high.summary(),
-            };
-            Verdict::Denied(cause(levels, standard.most_in_all()))
-        }
+        None => Verdict::Denied(search.cause()),
     }
 }
 
 // The first level with fewer closed runs than the least to be kept.
-fn short<S: Standard>(standard: &S, closed: &Levels<ClosedRuns>) -> Option<Level>
-    ensures { MatchOption result (Enough (S.meaning standard.now) (lists_of closed.now)) (First (TooFew (S.meaning standard.now) (lists_of closed.now))) }
+fn short(least: u32, closed: &Levels<ClosedRuns>) -> Option<Level>
+    ensures { result ≡ find (λ at. nat_lt (length (pairs_of (at_level closed.now at))) least) (Low ∷ Mid ∷ High ∷ []) }
 {
-    let least = standard.least_kept() as usize;
-    if closed.low.len() < least {
-        Some(Level::Low)
-    } else if closed.mid.len() < least {
-        Some(Level::Mid)
-    } else if closed.high.len() < least {
-        Some(Level::High)
-    } else {
-        None
-    }
+    Level::ALL
+        .iter()
+        .copied()
+        .find(|level| closed.at(*level).len() < least as usize)
 }

@@ -1,125 +1,99 @@
 // How a level's sets are gone through, each asked accuracy and statistics once.
-ghost use Rattle.std.specs.Prelude.{◌≡◌, ◌+◌, ◌^◌, ◌<◌, ◌≤◌, false, [], ◌∷◌, ◌++◌, length, MatchBool};
+ghost use Rattle.std.specs.Prelude.{◌≡◌, ◌+◌, ◌^◌, ◌<◌, false, length, MatchBool};
+ghost use Rattle.std.specs.Range.{range_inclusive_start, range_inclusive_end, range_inclusive_exhausted};
+ghost use Rattle.judge.specs.Search.{Groups};
 ghost use Rattle.judge.specs.Sets.{Fits};
-ghost use Rattle.judge.specs.Shortlists.{Between, Gathered, Stands, Whole, listed};
+ghost use Rattle.judge.specs.Shortlists.{Between, Gathered, Whole, listed};
 ghost use Rattle.runs.specs.Closed.{pairs_of};
 
-use crate::shortlists::{Entry, Shortlist};
+use crate::shortlists::{ByCount, Entry, Shortlist};
+use arrayvec::ArrayVec;
 use runs::ClosedRuns;
 use standard::Standard;
-use tally::Tally;
+use std::ops::RangeInclusive;
 use terms::Level;
 
-// How the runs that a set keeps do at their level.
-enum Standing {
-    Inaccurate,
-    // accurate, and no more
-    Unsteady,
-    // both yeses
-    Passing,
+// The closed runs of a level, and the standard by which sets of them are struck.
+#[derive(Drop)]
+pub(crate) struct Candidates<'a, S> {
+    pub(crate) standard: &'a S,
+    pub(crate) level: Level,
+    pub(crate) runs: &'a ClosedRuns,
 }
 
-// Asks accuracy and, where that is a yes, statistics.
-fn ask_both<S: Standard>(standard: &S, level: Level, kept: &Tally) -> Standing
-    ensures { Stands (S.meaning standard.now) level kept.now.sums result }
-{
-    if !standard.accuracy(level, kept) {
-        Standing::Inaccurate
-    } else if standard.statistics(level, kept) {
-        Standing::Passing
-    } else {
-        Standing::Unsteady
-    }
-}
-
-impl Shortlist {
-    // All sets of a level that fit, get both yeses, and strike from so many to so many.
-    pub(crate) fn new<S: Standard>(
-        standard: &S,
-        level: Level,
-        runs: &ClosedRuns,
-        from: u32,
-        to: u32,
-    ) -> Shortlist
-        ensures { Whole (S.meaning standard.now) level (pairs_of runs.now) from to result }
+impl<S: Standard> Candidates<'_, S> {
+    // All sets that fit and get both yeses, by how many they strike.
+    pub(crate) fn by_count(&self) -> ByCount
+        ensures { Groups (S.meaning self.now.standard.now) self.now.level (pairs_of self.now.runs.now) result }
     {
-        let mut list = Shortlist::empty(from, to);
-        for set in 0..(1u32 << runs.len()) {
-            list.consider(standard, level, runs, set);
+        ByCount {
+            groups: [
+                self.shortlist(0..=0),
+                self.shortlist(1..=1),
+                self.shortlist(2..=2),
+                self.shortlist(3..=3),
+            ],
+        }
+    }
+
+    // All sets that fit, get both yeses, and strike so many.
+    pub(crate) fn shortlist(&self, strikes: RangeInclusive<u32>) -> Shortlist
+        requires fresh { range_inclusive_exhausted strikes ≡ false }
+        ensures { Whole (S.meaning self.now.standard.now) self.now.level (pairs_of self.now.runs.now) (range_inclusive_start strikes) (range_inclusive_end strikes) result }
+    {
+        let mut list = Shortlist {
+            entries: ArrayVec::new(),
+            accurate: false,
+        };
+        for set in 0..(1u32 << self.runs.len()) {
+            self.consider(set, &strikes, &mut list);
         }
         list
     }
 
-    fn empty(from: u32, to: u32) -> Shortlist
-        ensures { (result.from ≡ from) × (result.to ≡ to) × (result.len ≡ 0) × (result.accurate ≡ false) }
-    {
-        let blank = Entry {
-            set: 0,
-            struck: 0,
-            kept: Tally::none(),
-        };
-        Shortlist {
-            from,
-            to,
-            entries: [blank; 299],
-            len: 0,
-            accurate: false,
-        }
-    }
-
-    // Takes a set in where it fits, gets both yeses, and strikes neither too few nor too many.
-    fn consider<S: Standard>(&mut self, standard: &S, level: Level, runs: &ClosedRuns, set: u32)
-        requires closed { set < 2 ^ length (pairs_of runs.now) }
-        requires begun { Gathered (S.meaning standard.now) level (pairs_of runs.now) self.old.from self.old.to set self.old }
-        ensures { Gathered (S.meaning standard.now) level (pairs_of runs.now) self.old.from self.old.to (set + 1) self.new }
-    {
-        if !self.takes(standard, runs, set) {
-            return;
-        }
-        let kept = runs.kept(set);
-        match ask_both(standard, level, &kept) {
-            Standing::Inaccurate => {}
-            Standing::Unsteady => self.accurate = true,
-            Standing::Passing => {
-                self.accurate = true;
-                self.push(Entry {
-                    set,
-                    struck: set.count_ones() as u8,
-                    kept,
-                });
-            }
-        }
-    }
-
-    // Whether a set fits, and strikes neither too few nor too many for this list.
-    fn takes<S: Standard>(&self, standard: &S, runs: &ClosedRuns, set: u32) -> bool
-        requires { set < 2 ^ length (pairs_of runs.now) }
-        ensures { MatchBool result (Between self.now.from self.now.to set × Fits (S.meaning standard.now) (pairs_of runs.now) set) (Between self.now.from self.now.to set → Fits (S.meaning standard.now) (pairs_of runs.now) set → ⊥) }
+    // Whether a set strikes so many, and fits.
+    fn takes(&self, set: u32, strikes: &RangeInclusive<u32>) -> bool
+        requires closed { set < 2 ^ length (pairs_of self.now.runs.now) }
+        requires fresh { range_inclusive_exhausted strikes.now ≡ false }
+        ensures { MatchBool result (Between (range_inclusive_start strikes.now) (range_inclusive_end strikes.now) set × Fits (S.meaning self.now.standard.now) (pairs_of self.now.runs.now) set) (Between (range_inclusive_start strikes.now) (range_inclusive_end strikes.now) set → Fits (S.meaning self.now.standard.now) (pairs_of self.now.runs.now) set → ⊥) }
     {
         let struck = set.count_ones();
-        if struck < self.from || struck > self.to || struck > standard.most_struck() {
-            return false;
-        }
-        if (standard.least_kept() + struck) as usize > runs.len() {
-            return false;
-        }
-        true
+        let limits = self.standard.limits();
+        strikes.contains(&struck)
+            && struck <= limits.most_struck
+            && (limits.least_kept + struck) as usize <= self.runs.len()
     }
 
-    fn push(&mut self, entry: Entry)
-        requires { self.old.len < 299 }
-        ensures last { listed self.new ≡ listed self.old ++ entry ∷ [] }
-        ensures same { (self.new.accurate ≡ self.old.accurate) × (self.new.from ≡ self.old.from) × (self.new.to ≡ self.old.to) }
+    // Takes a set in where it strikes so many, fits and gets both yeses.
+    fn consider(&self, set: u32, strikes: &RangeInclusive<u32>, list: &mut Shortlist)
+        requires closed { set < 2 ^ length (pairs_of self.now.runs.now) }
+        requires fresh { range_inclusive_exhausted strikes.now ≡ false }
+        requires begun { Gathered (S.meaning self.now.standard.now) self.now.level (pairs_of self.now.runs.now) (range_inclusive_start strikes.now) (range_inclusive_end strikes.now) set list.old }
+        ensures { Gathered (S.meaning self.now.standard.now) self.now.level (pairs_of self.now.runs.now) (range_inclusive_start strikes.now) (range_inclusive_end strikes.now) (set + 1) list.new }
     {
-        let at = self.len;
-        self.entries[at] = entry;
-        self.len = at + 1;
+        if !self.takes(set, strikes) {
+            return;
+        }
+        let kept = self.runs.kept(set);
+        if !self.standard.accuracy(self.level, &kept) {
+            return;
+        }
+        list.accurate = true;
+        if self.standard.statistics(self.level, &kept) {
+            list.entries.push(Entry {
+                set,
+                struck: set.count_ones() as u8,
+                kept,
+            });
+        }
     }
+}
 
+impl Shortlist {
     // The sets of the list.
     pub(crate) fn items(&self) -> &[Entry]
         ensures { result.now ≡ listed self.now }
     {
-        &self.entries[0..self.len]
+        self.entries.as_slice()
     }
 }

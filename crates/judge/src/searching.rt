@@ -1,89 +1,90 @@
 // The selection that strikes fewest and, among equals, comes first.
 ghost use Rattle.std.specs.Prelude.{◌≡◌, ◌+◌, ◌≤◌, MatchOption};
-ghost use Rattle.judge.specs.Search.{Fewest, Found, Groups, NoStrike, NoneBelow, group};
+ghost use Rattle.judge.specs.Search.{Fewest, Found, NoStrike, NoneBelow, Searches, group};
 ghost use Rattle.judge.specs.Shortlists.{listed};
-ghost use Rattle.runs.specs.Closed.{pairs_of};
+ghost use Rattle.runs.specs.Closed.{lists_of};
 
+use crate::listing::Candidates;
 use crate::shortlists::{ByCount, Entry, Shortlist};
 use runs::{ClosedRuns, Selection};
 use standard::Standard;
-use terms::Level;
+use terms::{Level, Levels};
 
-impl ByCount {
-    pub(crate) fn new<S: Standard>(standard: &S, level: Level, runs: &ClosedRuns) -> ByCount
-        ensures { Groups (S.meaning standard.now) level (pairs_of runs.now) result }
-    {
-        ByCount {
-            none: Shortlist::new(standard, level, runs, 0, 0),
-            one: Shortlist::new(standard, level, runs, 1, 1),
-            two: Shortlist::new(standard, level, runs, 2, 2),
-            three: Shortlist::new(standard, level, runs, 3, 3),
-        }
-    }
-
-    // The sets that strike so many, up to three.
-    fn striking(&self, count: u32) -> &[Entry]
-        ensures { result.now ≡ listed (group self.now count) }
-    {
-        match count {
-            0 => self.none.items(),
-            1 => self.one.items(),
-            2 => self.two.items(),
-            _ => self.three.items(),
-        }
-    }
+// The shortlists of the three levels under a standard.
+#[derive(Drop)]
+pub(crate) struct Search<'a, S> {
+    pub(crate) standard: &'a S,
+    pub(crate) low: ByCount,
+    pub(crate) mid: Shortlist,
+    pub(crate) high: Shortlist,
 }
 
-// The first selection, by high, then mid, then low, that strikes so many runs and gets together's yes.
-fn first_striking<S: Standard>(
-    standard: &S,
-    low: &ByCount,
-    mid: &[Entry],
-    high: &[Entry],
-    total: u32,
-) -> Option<Selection>
-    ensures { MatchOption result (NoStrike (S.meaning standard.now) low.now mid.now high.now total) (Found (S.meaning standard.now) low.now mid.now high.now total) }
-{
-    let mut found = None;
-    'search: for h in high {
-        for m in mid {
-            let others = u32::from(h.struck) + u32::from(m.struck);
-            if others > total || total - others > 3 {
-                continue;
+impl<'a, S: Standard> Search<'a, S> {
+    pub(crate) fn new(standard: &'a S, closed: &Levels<ClosedRuns>) -> Search<'a, S>
+        ensures standard { result.standard.now ≡ standard.now }
+        ensures whole { Searches (S.meaning standard.now) (lists_of closed.now) result.low result.mid result.high }
+    {
+        let at = |level: Level| Candidates {
+            standard,
+            level,
+            runs: closed.at(level),
+        };
+        Search {
+            standard,
+            low: at(Level::Low).by_count(),
+            mid: at(Level::Mid).shortlist(0..=3),
+            high: at(Level::High).shortlist(0..=3),
+        }
+    }
+
+    // The selection that strikes fewest and comes first, and how many it strikes.
+    pub(crate) fn fewest(&self) -> Option<(Selection, u32)>
+        ensures { MatchOption result (NoneBelow (S.meaning self.now.standard.now) self.now.low (listed self.now.mid) (listed self.now.high) ((S.meaning self.now.standard.now).most_in_all + 1)) (λ x. Fewest (S.meaning self.now.standard.now) self.now.low (listed self.now.mid) (listed self.now.high) x.0 x.1) }
+    {
+        for total in 0..=self.standard.limits().most_in_all {
+            if let Some(selection) = self.first_striking(total) {
+                return Some((selection, total));
             }
-            // Held by value, so that the innermost loop does not load them again.
-            let (mid_kept, high_kept) = (m.kept, h.kept);
-            let lows = low.striking(total - others);
-            for l in lows {
-                if standard.together(&l.kept, &mid_kept, &high_kept) {
-                    found = Some(Selection {
-                        low: l.set,
-                        mid: m.set,
-                        high: h.set,
-                    });
-                    break 'search;
+        }
+        None
+    }
+
+    // The first selection, by high, then mid, then low, that strikes so many runs and gets together's yes.
+    fn first_striking(&self, total: u32) -> Option<Selection>
+        ensures { MatchOption result (NoStrike (S.meaning self.now.standard.now) self.now.low (listed self.now.mid) (listed self.now.high) total) (Found (S.meaning self.now.standard.now) self.now.low (listed self.now.mid) (listed self.now.high) total) }
+    {
+        let mut found = None;
+        let mids = self.mid.items();
+        'search: for h in self.high.items() {
+            for m in mids {
+                let others = u32::from(h.struck) + u32::from(m.struck);
+                if others > total || total - others > 3 {
+                    continue;
+                }
+                // Held by value, so that the innermost loop does not load them again.
+                let (mid_kept, high_kept) = (m.kept, h.kept);
+                for l in self.low.striking(total - others) {
+                    if self.standard.together(&l.kept, &mid_kept, &high_kept) {
+                        found = Some(Selection {
+                            low: l.set,
+                            mid: m.set,
+                            high: h.set,
+                        });
+                        break 'search;
+                    }
                 }
             }
         }
+        found
     }
-    found
 }
 
-// The selection that strikes fewest and comes first, and how many it strikes.
-pub(crate) fn fewest<S: Standard>(
-    standard: &S,
-    low: &ByCount,
-    mid: &Shortlist,
-    high: &Shortlist,
-) -> Option<(Selection, u32)>
-    ensures { MatchOption result (NoneBelow (S.meaning standard.now) low.now (listed mid.now) (listed high.now) ((S.meaning standard.now).most_in_all + 1)) (λ x. Fewest (S.meaning standard.now) low.now (listed mid.now) (listed high.now) x.0 x.1) }
-{
-    let mids = mid.items();
-    let highs = high.items();
-    for total in 0..=standard.most_in_all() {
-        if let Some(selection) = first_striking(standard, low, mids, highs, total) {
-            return Some((selection, total));
-        }
+impl ByCount {
+    // The sets that strike so many.
+    fn striking(&self, count: u32) -> &[Entry]
+        requires { count ≤ 3 }
+        ensures { result.now ≡ group self.now count }
+    {
+        self.groups[count as usize].items()
     }
-    None
 }

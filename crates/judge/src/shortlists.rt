@@ -1,6 +1,7 @@
 // The sets of a level that fit and get both yeses of a standard.
-ghost use Rattle.std.specs.Prelude.{◌≡◌, ◌≤◌, length};
+ghost use Rattle.std.specs.Prelude.{◌≡◌, length};
 
+use arrayvec::ArrayVec;
 use tally::Tally;
 
 // A set of struck positions, how many it strikes, and the tally of the runs that it keeps.
@@ -11,24 +12,28 @@ pub(crate) struct Entry {
     pub(crate) kept: Tally,
 }
 
+// What stands in the places of a list that are not taken.
+impl Default for Entry {
+    fn default() -> Entry {
+        Entry {
+            set: 0,
+            struck: 0,
+            kept: Tally::none(),
+        }
+    }
+}
+
 // The sets that strike from so many to so many, rising, and whether any fitting one is accurate. At most 299 sets strike at
 // most three of twelve runs: 1 + 12 + 66 + 220.
 #[derive(Drop)]
 pub(crate) struct Shortlist {
-    pub(crate) from: u32,
-    pub(crate) to: u32,
-    pub(crate) entries: [Entry; 299],
-    pub(crate) len: usize,
+    pub(crate) entries: ArrayVec<Entry, 299>,
     pub(crate) accurate: bool,
-    ghost room: { length entries ≡ 299 },
-    ghost few: { len ≤ 299 },
 }
 
-// A level's sets, by how many they strike.
+// A level's sets, by how many they strike, from none to three.
 #[derive(Drop)]
 pub(crate) struct ByCount {
-    pub(crate) none: Shortlist,
-    pub(crate) one: Shortlist,
-    pub(crate) two: Shortlist,
-    pub(crate) three: Shortlist,
+    pub(crate) groups: [Shortlist; 4],
+    ghost four: { length groups ≡ 4 },
 }

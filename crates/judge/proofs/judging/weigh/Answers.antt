@@ -1,36 +1,36 @@
-use Rattle.std.proofs.Common.{◌≤◌, length, sym, subst}
-use Rattle.judge.specs.Causes.{SumsUp}
-use Rattle.judge.specs.declared.causes.Summary.{Summary}
+use Rattle.std.proofs.Common.{◌≤◌, length, sym}
+use Rattle.std.proofs.lemmas.Option.{MatchOption-at_none, MatchOption-at_some}
+use Rattle.judge.proofs.Blame.{first_short}
 use Rattle.judge.proofs.Found.{fewest_best, none_meets}
 use Rattle.judge.proofs.Groups.{by_level}
-use Rattle.judge.proofs.Summing.{groups_sum, list_sums}
-use Rattle.runs.specs.Closed.{lists_of, pairs_of}
+use Rattle.runs.specs.Closed.{lists_of}
 use Rattle.runs.proofs.Few.{few_pairs}
 use Rattle.terms.specs.Levels.{at_level}
-use Rattle.terms.specs.declared.levels.Level.TheVariants.{Low, Mid, High}
-use Rattle.terms.specs.declared.levels.Levels.{Levels}
 use Rattle.judge.proofs.judging.weigh.Goals as goal
+
+pub returns-in-Some : goal.returns-in-Some
+returns-in-Some g c =
+    let m = g.S.Standard.meaning c.args.standard.now in
+    MatchOption-at_some _ _ _ (sym (rw c.limits.ensures.least_kept at c.in-Some.ensures)) (first_short m (lists_of c.args.closed.now))
 
 pub returns-in-Some-fewest : goal.returns-in-Some-fewest
 returns-in-Some-fewest g c =
-    let m = g.S.Standard.meaning c.args.standard.now in
+    let standard = c.args.standard.now in
     let closed = c.args.closed.now in
-    fewest_best m (g.met.S.Standard.lawful c.args.standard.now) (lists_of closed) _ _ _ c.new-low.ensures c.new-mid.ensures c.new-high.ensures
+    let fewest = rw c.new-search.ensures.standard at c.in-Some-fewest.ensures in
+    fewest_best (g.S.Standard.meaning standard) (g.met.S.Standard.lawful standard) (lists_of closed) _ _ _ c.new-search.ensures.whole
     (by_level (λ at. length (at_level (lists_of closed) at) ≤ 12) (few_pairs closed.low) (few_pairs closed.mid) (few_pairs closed.high))
-    c.in_default.ensures _ _ c.in-Some-fewest.ensures
+    (MatchOption-at_none _ _ (sym (rw c.limits.ensures.least_kept at c.in_default.ensures)) (first_short (g.S.Standard.meaning standard) (lists_of closed)))
+    _ _ fewest
 
 pub returns-in-None : goal.returns-in-None
 returns-in-None g c =
-    let m = g.S.Standard.meaning c.args.standard.now in
-    let lawful = g.met.S.Standard.lawful c.args.standard.now in
-    let closed = c.args.closed.now in
-    let levels : Levels Summary = record { low = c.summary.result; mid = c.summary-in-None.result; high = c.summary-in-None-2.result } in
+    let standard = c.args.standard.now in
+    let closed = lists_of c.args.closed.now in
+    let none = rw c.new-search.ensures.standard at c.in-None.ensures in
+    let because = rw c.new-search.ensures.standard at c.cause.ensures in
     record {
-      enough = c.in_default.ensures;
-      none = none_meets m lawful (lists_of closed) _ _ _ c.new-low.ensures c.new-mid.ensures c.new-high.ensures c.in-None.ensures;
-      because = c.cause.ensures m (lists_of closed) c.most_in_all.ensures
-          (by_level (λ at. SumsUp m at (at_level (lists_of closed) at) (at_level levels at))
-          (subst (SumsUp m Low (pairs_of closed.low)) (sym c.summary.ensures) (groups_sum m lawful Low (pairs_of closed.low) _ c.new-low.ensures))
-          (list_sums m lawful Mid (pairs_of closed.mid) _ c.new-mid.ensures _ c.summary-in-None.ensures.accurate c.summary-in-None.ensures.fewest)
-          (list_sums m lawful High (pairs_of closed.high) _ c.new-high.ensures _ c.summary-in-None-2.ensures.accurate c.summary-in-None-2.ensures.fewest));
+      enough = MatchOption-at_none _ _ (sym (rw c.limits.ensures.least_kept at c.in_default.ensures)) (first_short (g.S.Standard.meaning standard) closed);
+      none = none_meets (g.S.Standard.meaning standard) (g.met.S.Standard.lawful standard) closed _ _ _ c.new-search.ensures.whole none;
+      because = because closed c.new-search.ensures.whole;
     }
