@@ -36,7 +36,7 @@ fn weigh<S: Standard>(standard: &S, closed: &Levels<ClosedRuns>) -> Verdict
                 mid: mid.summary(),
                 high: high.summary(),
             };
-            Verdict::Denied(cause(levels, standard.limits().most_in_all))
+            Verdict::Denied(cause(levels, standard.most_in_all()))
         }
     }
 }
@@ -45,7 +45,7 @@ fn weigh<S: Standard>(standard: &S, closed: &Levels<ClosedRuns>) -> Verdict
 fn short<S: Standard>(standard: &S, closed: &Levels<ClosedRuns>) -> Option<Level>
     ensures { MatchOption result (Enough (S.meaning standard.now) (lists_of closed.now)) (First (TooFew (S.meaning standard.now) (lists_of closed.now))) }
 {
-    let least = standard.limits().least_kept as usize;
+    let least = standard.least_kept() as usize;
     if closed.low.len() < least {
         Some(Level::Low)
     } else if closed.mid.len() < least {

@@ -96,12 +96,11 @@ impl Shortlist {
         requires { set < 2 ^ length (pairs_of runs.now) }
         ensures { MatchBool result (Between self.now.from self.now.to set × Fits (S.meaning standard.now) (pairs_of runs.now) set) (Between self.now.from self.now.to set → Fits (S.meaning standard.now) (pairs_of runs.now) set → ⊥) }
     {
-        let limits = standard.limits();
         let struck = set.count_ones();
-        if struck < self.from || struck > self.to || struck > limits.most_struck {
+        if struck < self.from || struck > self.to || struck > standard.most_struck() {
             return false;
         }
-        if (limits.least_kept + struck) as usize > runs.len() {
+        if (standard.least_kept() + struck) as usize > runs.len() {
             return false;
         }
         true

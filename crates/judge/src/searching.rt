@@ -80,7 +80,7 @@ pub(crate) fn fewest<S: Standard>(
 {
     let mids = mid.items();
     let highs = high.items();
-    for total in 0..=standard.limits().most_in_all {
+    for total in 0..=standard.most_in_all() {
         if let Some(selection) = first_striking(standard, low, mids, highs, total) {
             return Some((selection, total));
         }

@@ -28,7 +28,7 @@ returns-in-None g c =
     record {
       enough = c.in_default.ensures;
       none = none_meets m lawful (lists_of closed) _ _ _ c.new-low.ensures c.new-mid.ensures c.new-high.ensures c.in-None.ensures;
-      because = c.cause.ensures m (lists_of closed) c.limits.ensures.most_in_all
+      because = c.cause.ensures m (lists_of closed) c.most_in_all.ensures
           (by_level (λ at. SumsUp m at (at_level (lists_of closed) at) (at_level levels at))
           (subst (SumsUp m Low (pairs_of closed.low)) (sym c.summary.ensures) (groups_sum m lawful Low (pairs_of closed.low) _ c.new-low.ensures))
           (list_sums m lawful Mid (pairs_of closed.mid) _ c.new-mid.ensures _ c.summary-in-None.ensures.accurate c.summary-in-None.ensures.fewest)

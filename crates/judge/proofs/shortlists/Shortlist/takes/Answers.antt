@@ -3,8 +3,8 @@ use Rattle.judge.proofs.Counting.{kept_struck}
 use Rattle.runs.specs.Closed.{pairs_of}
 use Rattle.judge.proofs.shortlists.Shortlist.takes.Goals as goal
 
-pub returns-then-limits-struck : goal.returns-then-limits-struck
-returns-then-limits-struck g c range fits =
+pub returns-then-least_kept-struck : goal.returns-then-least_kept-struck
+returns-then-least_kept-struck g c range fits =
     let all = kept_struck (pairs_of c.args.runs.now) c.args.set fits.closed in
     omega (arith, fits.keeps)
 
