@@ -1,5 +1,6 @@
 -- The account of a campaign: what its calls leave, from their arguments alone.
-use Rattle.std.specs.Prelude.{ℕ, ◌+◌, Bool, true, false, cond, ◌&&◌, ◌||◌, List, [], ◌∷◌, ◌++◌, length, is_some, Some, None, fold, Option, ◌==◌, nat_le}
+use Rattle.std.specs.Prelude.{ℕ, ◌+◌, Bool, false, cond, ◌&&◌, ◌||◌, List, [], ◌∷◌, ◌++◌, length, is_some, Some, None, fold, Option, nat_le}
+use Rattle.campaign.specs.contracts.RunIdPartialEq.TheImpl as run_eq
 use Rattle.campaign.specs.declared.RunId.{RunId}
 use Rattle.campaign.specs.declared.replaying.Call.{Call}
 use Rattle.campaign.specs.declared.replaying.Call.TheVariants.{Begin, Close, Void, Judge}
@@ -37,13 +38,9 @@ opened a level = record {
   current = Some (record { serial = a.serial; level = level; number = a.begun + 1 });
 }
 
-abbrev pub same_level : Level → Level → Bool
-same_level Low l = at_level (record { low = true; mid = false; high = false }) l
-same_level Mid l = at_level (record { low = false; mid = true; high = false }) l
-same_level High l = at_level (record { low = false; mid = false; high = true }) l
-
+-- the derived equality: the same serial, level and number
 abbrev pub same_run : RunId → RunId → Bool
-same_run a b = a.serial == b.serial && (same_level a.level b.level && a.number == b.number)
+same_run = (run_eq.ghosts).eq
 
 -- the run has the serial, level and number of the one that is begun and not ended
 abbrev pub is_open : Option RunId → RunId → Bool
@@ -75,8 +72,8 @@ closed_with a level q =
 -- What one call leaves.
 abbrev pub step : Account → Call → Account
 step a (Begin level) = cond (no_begin a level) a (opened a level)
-step a (Close id r p) =
-    cond (is_current a id && (is_reading a r && is_reading a p)) (closed_with a id.level (record { reference = r; predicted = p })) a
+step a (Close id q) =
+    cond (is_current a id && (is_reading a q.reference && is_reading a q.predicted)) (closed_with a id.level q) a
 step a (Void id) = cond (is_current a id) (ended a) a
 step a Judge = a
 

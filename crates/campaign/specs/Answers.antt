@@ -8,6 +8,7 @@ use Rattle.campaign.specs.declared.refusals.CloseRefusal.{CloseRefusal}
 use Rattle.campaign.specs.declared.refusals.VoidRefusal.{VoidRefusal}
 use Rattle.terms.specs.Levels.{at_level}
 use Rattle.terms.specs.declared.levels.Level.{Level}
+use Rattle.terms.specs.declared.pairs.Pair.{Pair}
 
 -- the number of begin's refusal that is due: a run is begun, 99 are begun, the level has 12, looked at in this order
 abbrev pub begin_fault : Account → Level → Option ℕ
@@ -24,18 +25,18 @@ BeginAnswer a level (Ok run) = HandsOut a level run
 BeginAnswer a level (Err e) = begin_fault a level ≡ Some (begin_number e)
 
 -- the number of close's refusal that is due: not the run now begun, the reference over the top, the prediction over it
-abbrev pub close_fault : Account → BegunRun → ℕ → ℕ → Option ℕ
-close_fault a run r p =
-    cond (is_current a run.id) (cond (is_reading a r) (cond (is_reading a p) None (Some 25)) (Some 24)) (Some 23)
+abbrev pub close_fault : Account → BegunRun → Pair → Option ℕ
+close_fault a run q =
+    cond (is_current a run.id) (cond (is_reading a q.reference) (cond (is_reading a q.predicted) None (Some 25)) (Some 24)) (Some 23)
 
 -- A refusal is told by its number and hands the begun run back, whole.
 pub record HandsBack (due : Option ℕ) (run : BegunRun) (number : ℕ) (back : BegunRun) : Type 0 where
   pub told : due ≡ Some number
   pub same : back ≡ run
 
-abbrev pub CloseAnswer : Account → BegunRun → ℕ → ℕ → Result (Unit {0}) CloseRefusal → Type 0
-CloseAnswer a run r p (Ok _) = close_fault a run r p ≡ None
-CloseAnswer a run r p (Err e) = HandsBack (close_fault a run r p) run (close_number e.fault) e.run
+abbrev pub CloseAnswer : Account → BegunRun → Pair → Result (Unit {0}) CloseRefusal → Type 0
+CloseAnswer a run q (Ok _) = close_fault a run q ≡ None
+CloseAnswer a run q (Err e) = HandsBack (close_fault a run q) run (close_number e.fault) e.run
 
 abbrev pub void_fault : Account → BegunRun → Option ℕ
 void_fault a run = cond (is_current a run.id) None (Some 23)

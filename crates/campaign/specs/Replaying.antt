@@ -8,17 +8,16 @@ use Rattle.campaign.specs.declared.Log.{Log}
 use Rattle.campaign.specs.declared.RunId.{RunId}
 use Rattle.campaign.specs.declared.replaying.Call.{Call}
 use Rattle.campaign.specs.declared.replaying.Call.TheVariants.{Close, Void}
-use Rattle.campaign.specs.declared.replaying.Ending.{Ending}
-use Rattle.campaign.specs.declared.replaying.Ending.TheVariants.{Close as Closing, Void as Voiding}
+use Rattle.terms.specs.declared.pairs.Pair.{Pair}
 
 -- what identifies the run that is held, if any
 abbrev pub held_id : Option BegunRun → Option RunId
 held_id held = option_map (λ run. run.id) held
 
--- the call that ends a run so
-abbrev pub end_call : RunId → Ending → Call
-end_call id (Closing r p) = Close id r p
-end_call id Voiding = Void id
+-- the call that closes a run with a pair, or voids it where there is none
+abbrev pub end_call : RunId → Option Pair → Call
+end_call id (Some q) = Close id q
+end_call id None = Void id
 
 -- The run was the one begun and none is now; or it comes back, and the log is as it was.
 abbrev pub HandedBack : Log → BegunRun → Log → Option BegunRun → Type 0

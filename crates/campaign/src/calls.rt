@@ -57,14 +57,9 @@ impl Log {
     }
 
     // Ends the begun run and puts its pair last at its level.
-    pub fn close(
-        &mut self,
-        run: BegunRun,
-        reference: u32,
-        predicted: u32,
-    ) -> Result<(), CloseRefusal>
-        ensures account { view self.new ≡ step (view self.old) (Close run.id reference predicted) }
-        ensures answer { CloseAnswer (view self.old) run reference predicted result }
+    pub fn close(&mut self, run: BegunRun, pair: Pair) -> Result<(), CloseRefusal>
+        ensures account { view self.new ≡ step (view self.old) (Close run.id pair) }
+        ensures answer { CloseAnswer (view self.old) run pair result }
         ensures same { OnErr result (self.new ≡ self.old) }
     {
         let top = self.head.kind.top();
@@ -74,26 +69,20 @@ impl Log {
                 fault: CloseFault::NotCurrent,
             });
         }
-        if reference > top {
+        if pair.reference > top {
             return Err(CloseRefusal {
                 run,
                 fault: CloseFault::Reference,
             });
         }
-        if predicted > top {
+        if pair.predicted > top {
             return Err(CloseRefusal {
                 run,
                 fault: CloseFault::Predicted,
             });
         }
         let BegunRun { id } = run;
-        self.put_last(
-            id.level,
-            Pair {
-                reference,
-                predicted,
-            },
-        );
+        self.put_last(id.level, pair);
         Ok(())
     }
 

@@ -5,7 +5,7 @@ ghost use Rattle.campaign.specs.View.{view};
 ghost use Rattle.terms.specs.Readings.{higher};
 ghost use Rattle.terms.specs.Limits.{top_reading};
 
-use crate::{BegunRun, Log};
+use crate::{BegunRun, Log, RunId};
 use terms::{Level, Pair};
 
 impl Log {
@@ -13,12 +13,18 @@ impl Log {
     pub(crate) fn is_current(&self, run: &BegunRun) -> bool
         ensures { result ≡ is_current (view self.now) run.now.id }
     {
-        match self.current {
-            None => false,
-            Some(level) => {
-                run.id.serial == self.serial && run.id.level == level && run.id.number == self.begun
-            }
-        }
+        self.current_id() == Some(run.id)
+    }
+
+    // What identifies the run that is begun and not ended.
+    fn current_id(&self) -> Option<RunId>
+        ensures { result ≡ (view self.now).current }
+    {
+        self.current.map(|level| RunId {
+            serial: self.serial,
+            level,
+            number: self.begun,
+        })
     }
 
     // Puts a pair last at the level of the run that is begun, which ends.

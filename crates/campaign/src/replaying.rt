@@ -7,18 +7,14 @@ ghost use Rattle.campaign.specs.declared.replaying.Call.TheVariants.{Begin};
 
 use crate::refusals::{CloseRefusal, VoidRefusal};
 use crate::{BegunRun, Log, RunId};
-use terms::{Head, Level};
+use terms::{Head, Level, Pair};
 
 // A call on a log, by its arguments. A run is named by what identifies it, so that a list of calls may name a run of
 // another campaign, one that has ended, or one that was never begun.
 #[derive(Clone, Copy, PartialEq, Eq, Debug)]
 pub enum Call {
     Begin(Level),
-    Close {
-        run: RunId,
-        reference: u32,
-        predicted: u32,
-    },
+    Close { run: RunId, pair: Pair },
     Void(RunId),
     Judge,
 }
@@ -27,13 +23,6 @@ pub enum Call {
 pub struct Replayed {
     pub log: Log,
     pub run: Option<BegunRun>,
-}
-
-// How a call ends a run.
-#[derive(Clone, Copy)]
-pub(crate) enum Ending {
-    Close { reference: u32, predicted: u32 },
-    Void,
 }
 
 // Makes an empty campaign and gives it the calls one after another, refused ones included.
@@ -69,19 +58,8 @@ impl Log {
     {
         match call {
             Call::Begin(level) => self.follow_begin(held, level),
-            Call::Close {
-                run,
-                reference,
-                predicted,
-            } => self.follow_end(
-                held,
-                run,
-                Ending::Close {
-                    reference,
-                    predicted,
-                },
-            ),
-            Call::Void(run) => self.follow_end(held, run, Ending::Void),
+            Call::Close { run, pair } => self.follow_end(held, run, Some(pair)),
+            Call::Void(run) => self.follow_end(held, run, None),
             Call::Judge => held,
         }
     }
@@ -100,57 +78,55 @@ impl Log {
         }
     }
 
+    // Ends the run that is named: closes it with the pair, or voids it where there is none.
     fn follow_end(
         &mut self,
         held: Option<BegunRun>,
         named: RunId,
-        ending: Ending,
+        pair: Option<Pair>,
     ) -> Option<BegunRun>
         requires { held_id held ≡ (view self.old).current }
-        ensures account { view self.new ≡ step (view self.old) (end_call named ending) }
+        ensures account { view self.new ≡ step (view self.old) (end_call named pair) }
         ensures run { held_id result ≡ (view self.new).current }
     {
         match held {
             None => {
-                self.refuse(named, ending);
+                self.refuse(named, pair);
                 None
             }
             Some(run) => {
                 if run.id == named {
-                    return self.end(run, ending);
+                    return self.end(run, pair);
                 }
-                self.refuse(named, ending);
+                self.refuse(named, pair);
                 Some(run)
             }
         }
     }
 
-    // Gives a run to close or void, and returns it where it is refused.
-    fn end(&mut self, run: BegunRun, ending: Ending) -> Option<BegunRun>
-        ensures account { view self.new ≡ step (view self.old) (end_call run.id ending) }
+    // Gives a run to close, or to void where there is no pair, and returns it where it is refused.
+    fn end(&mut self, run: BegunRun, pair: Option<Pair>) -> Option<BegunRun>
+        ensures account { view self.new ≡ step (view self.old) (end_call run.id pair) }
         ensures back { HandedBack self.old run self.new result }
     {
-        match ending {
-            Ending::Close {
-                reference,
-                predicted,
-            } => match self.close(run, reference, predicted) {
+        match pair {
+            Some(pair) => match self.close(run, pair) {
                 Ok(()) => None,
                 Err(CloseRefusal { run, fault: _ }) => Some(run),
             },
-            Ending::Void => match self.void(run) {
+            None => match self.void(run) {
                 Ok(()) => None,
                 Err(VoidRefusal { run }) => Some(run),
             },
         }
     }
 
-    fn refuse(&mut self, named: RunId, ending: Ending)
+    fn refuse(&mut self, named: RunId, pair: Option<Pair>)
         requires { is_current (view self.old) named ≡ false }
-        ensures account { view self.new ≡ step (view self.old) (end_call named ending) }
+        ensures account { view self.new ≡ step (view self.old) (end_call named pair) }
         ensures same { self.new ≡ self.old }
     {
-        match self.end(BegunRun { id: named }, ending) {
+        match self.end(BegunRun { id: named }, pair) {
             None => unreachable(),
             Some(run) => {
                 let BegunRun { id: _ } = run;

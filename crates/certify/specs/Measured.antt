@@ -12,7 +12,7 @@ next_id a level = record { serial = a.serial; level = level; number = a.begun + 
 
 -- A run is closed with its readings, and voided where these are refused.
 abbrev pub finished : Account → RunId → Pair → Account
-finished a id q = fold step a (Close id q.reference q.predicted ∷ Void id ∷ [])
+finished a id q = fold step a (Close id q ∷ Void id ∷ [])
 
 -- A run is begun and then finished so.
 abbrev pub measured : Account → Level → Pair → Account

@@ -5,30 +5,29 @@ mod crew;
 
 use campaign::BeginRefusal;
 use crew::Crew;
-use std::io;
+use std::{fmt, io};
 use terms::{Head, HeadRefusal, Kind, Level, Pair, Use};
 
 fn main(rt: HostRuntime) -> io::Result<()> {
     match boiler() {
         Ok(crew) => show(&rt, &crew),
-        Err(refusal) => {
-            let number = refusal.number();
-            println!(rt; "refused {number}")
-        }
+        Err(refusal) => println!(rt; "refused {refusal}"),
     }
 }
 
 // Why a campaign came to no end.
+#[derive(Clone, Copy)]
 enum Refusal {
     Head(HeadRefusal),
     Begin(BeginRefusal),
 }
 
-impl Refusal {
-    fn number(self) -> u32 {
+// A refusal is told by its number.
+impl fmt::Display for Refusal {
+    fn fmt<W: fmt::Write>(&self, f: &mut fmt::Formatter<W>) -> fmt::Result {
         match self {
-            Refusal::Head(refusal) => refusal.number(),
-            Refusal::Begin(refusal) => refusal.number(),
+            Refusal::Head(refusal) => write!(f, "{}", refusal.number()),
+            Refusal::Begin(refusal) => write!(f, "{}", refusal.number()),
         }
     }
 }
@@ -70,23 +69,22 @@ fn pair(reference: u32, predicted: u32) -> Pair {
 
 // A line for each level with its closed runs, then how many runs were begun and voided, and how many closes were refused.
 fn show(rt: &impl Print, crew: &Crew) -> io::Result<()> {
-    show_level(rt, crew, Level::Low, "low")?;
-    show_level(rt, crew, Level::Mid, "mid")?;
-    show_level(rt, crew, Level::High, "high")?;
-    let begun = crew.log.begun();
-    let voided = crew.voided;
-    let refused = crew.refused;
-    println!(rt; "begun {begun}, voided {voided}, refused {refused}")
+    for level in Level::ALL {
+        show_level(rt, crew, level)?;
+    }
+    println!(rt;
+        "begun {}, voided {}, refused {}",
+        crew.log.begun(),
+        crew.voided,
+        crew.refused
+    )
 }
 
-fn show_level(rt: &impl Print, crew: &Crew, level: Level, name: &str) -> io::Result<()> {
+fn show_level(rt: &impl Print, crew: &Crew, level: Level) -> io::Result<()> {
     let pairs = crew.log.closed(level);
-    let count = pairs.len();
-    print!(rt; "{name} {count} closed:")?;
+    print!(rt; "{level} {} closed:", pairs.len())?;
     for pair in pairs {
-        let reference = pair.reference;
-        let predicted = pair.predicted;
-        print!(rt; " {reference}/{predicted}")?;
+        print!(rt; " {pair}")?;
     }
     println!(rt; "")
 }

@@ -2,27 +2,34 @@
 ghost use Rattle.std.proofs.Common.{rules};
 
 use crate::log_tests::{measure, void};
+use crate::test_makings::{pair, ppm};
 use campaign::{Call, Log, Replayed, RunId};
 use certification::{Judged, judge_by, judge_by_ps16, replay_and_judge};
 use judge::{Cause, Verdict};
 use runs::Selection;
-use standard::Standard;
+use standard::{Limits, Standard};
 use std::process::Abort;
 use std::test::Fail;
 use tally::Tally;
-use terms::{Head, Kind, Level, Use};
+use terms::{Head, Kind, Level, Pair, Use};
 
-type Runs<'a> = &'a [(u32, u32)];
+type Runs<'a> = &'a [Pair];
 
-const RIGHT: (u32, u32) = (2000, 2000);
+const RIGHT: Pair = Pair {
+    reference: 2000,
+    predicted: 2000,
+};
 
-const WRONG: (u32, u32) = (2000, 5000);
+const WRONG: Pair = Pair {
+    reference: 2000,
+    predicted: 5000,
+};
 
-const THREE_RIGHT: [(u32, u32); 3] = [RIGHT, RIGHT, RIGHT];
+const THREE_RIGHT: [Pair; 3] = [RIGHT, RIGHT, RIGHT];
 
 fn close_all(rt: &impl Abort, log: &mut Log, level: Level, runs: Runs) {
     for run in runs {
-        assert_eq!(rt; measure(log, level, run.0, run.1), 0);
+        assert_eq!(rt; measure(log, level, *run), None);
     }
 }
 
@@ -34,12 +41,8 @@ fn log_of(rt: &impl Abort, head: Head, low: Runs, mid: Runs, high: Runs) -> Log 
     log
 }
 
-fn excess() -> Result<Head, Fail> {
-    Ok(Head::new(Kind::Ppm, Use::Excess, 2000, 5000)?)
-}
-
 fn excess_verdict(rt: &impl Abort, low: Runs, mid: Runs, high: Runs) -> Result<Verdict, Fail> {
-    Ok(judge_by_ps16(&log_of(rt, excess()?, low, mid, high)))
+    Ok(judge_by_ps16(&log_of(rt, ppm(Use::Excess)?, low, mid, high)))
 }
 
 fn certified(low: u32, mid: u32, high: u32, struck: u32) -> Verdict {
@@ -70,7 +73,12 @@ fn certificates(rt: HostRuntime) -> Result<(), Fail> {
 // Any one of four runs can go: the first position at the lowest level has the smallest code.
 #[test]
 fn choice_among_equals(rt: HostRuntime) -> Result<(), Fail> {
-    let far = &[(2000, 1799), (2000, 1800), (2000, 1800), (2000, 1800)];
+    let far = &[
+        pair(2000, 1799),
+        pair(2000, 1800),
+        pair(2000, 1800),
+        pair(2000, 1800),
+    ];
     assert_eq!(rt;
         excess_verdict(&rt, far, &THREE_RIGHT, far)?,
         certified(1, 0, 1, 2)
@@ -101,7 +109,7 @@ fn excess_causes(rt: HostRuntime) -> Result<(), Fail> {
         Verdict::Denied(Cause::Accuracy(Level::Mid))
     );
     let two = &[RIGHT, RIGHT, RIGHT, WRONG, WRONG];
-    let high = &[(3000, 3000), (3000, 3000), (3000, 3000)];
+    let high = &[pair(3000, 3000), pair(3000, 3000), pair(3000, 3000)];
     assert_eq!(rt;
         excess_verdict(&rt, two, two, high)?,
         Verdict::Denied(Cause::TooMany)
@@ -109,8 +117,8 @@ fn excess_causes(rt: HostRuntime) -> Result<(), Fail> {
     Ok(())
 }
 
-fn nine(reference: u32, predicted: u32) -> [(u32, u32); 9] {
-    [(reference, predicted); 9]
+fn nine(reference: u32, predicted: u32) -> [Pair; 9] {
+    [pair(reference, predicted); 9]
 }
 
 fn compliance_verdict(
@@ -136,8 +144,8 @@ fn compliance(rt: HostRuntime) -> Result<(), Fail> {
         Verdict::Denied(Cause::Together)
     );
     let mut unsteady = nine(4000, 4000);
-    unsteady[2].1 = 3900;
-    unsteady[5].1 = 4100;
+    unsteady[2].predicted = 3900;
+    unsteady[5].predicted = 4100;
     assert_eq!(rt;
         compliance_verdict(&rt, 1, low, mid, &unsteady)?,
         Verdict::Denied(Cause::Statistics(Level::High))
@@ -148,13 +156,13 @@ fn compliance(rt: HostRuntime) -> Result<(), Fail> {
 #[test]
 fn diluents(rt: HostRuntime) -> Result<(), Fail> {
     let excess = Head::new(Kind::Diluent, Use::Excess, 0, 2500)?;
-    let apart = &[(400, 300), (400, 300), (400, 300)];
+    let apart = &[pair(400, 300), pair(400, 300), pair(400, 300)];
     let log = log_of(
         &rt,
         excess,
         apart,
         apart,
-        &[(400, 299), (400, 299), (400, 299)],
+        &[pair(400, 299), pair(400, 299), pair(400, 299)],
     );
     assert_eq!(rt;
         judge_by_ps16(&log),
@@ -195,16 +203,12 @@ impl Standard for Always {
         self.answer
     }
 
-    fn least_kept(&self) -> u32 {
-        3
-    }
-
-    fn most_struck(&self) -> u32 {
-        1
-    }
-
-    fn most_in_all(&self) -> u32 {
-        2
+    fn limits(&self) -> Limits {
+        Limits {
+            least_kept: 3,
+            most_struck: 1,
+            most_in_all: 2,
+        }
     }
 }
 
@@ -212,7 +216,7 @@ impl Standard for Always {
 fn met_by_all_or_none(rt: HostRuntime) -> Result<(), Fail> {
     let log = log_of(
         &rt,
-        excess()?,
+        ppm(Use::Excess)?,
         &THREE_RIGHT,
         &[WRONG, WRONG, WRONG],
         &THREE_RIGHT,
@@ -240,15 +244,14 @@ fn a_list_of_calls(rt: HostRuntime) -> Result<(), Fail> {
         Call::Begin(Level::High),
         Call::Close {
             run,
-            reference: 1,
-            predicted: 1,
+            pair: pair(1, 1),
         },
         Call::Void(run),
         Call::Judge,
     ];
     let Judged { replayed, verdict } = replay_and_judge(
         &Always { answer: true },
-        excess()?,
+        ppm(Use::Excess)?,
         7,
         &calls,
     );

@@ -12,4 +12,6 @@ mod standard_tests;
 #[cfg(test)]
 mod table_tests;
 #[cfg(test)]
+mod test_makings;
+#[cfg(test)]
 mod worked_tests;

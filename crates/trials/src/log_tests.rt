@@ -2,24 +2,21 @@
 ghost use Rattle.std.specs.Prelude.{◌≡◌, true, is_some, Some, None};
 ghost use Rattle.campaign.specs.View.{view};
 
+use crate::test_makings::{pair, ppm};
 use campaign::{BegunRun, Call, CloseRefusal, Log, Replayed, RunId, replay};
 use std::process::Abort;
 use std::test::Fail;
-use terms::{Head, HeadRefusal, Kind, Level, Use};
+use terms::{Head, Kind, Level, Pair, Use};
 
-fn head() -> Result<Head, HeadRefusal> {
-    Head::new(Kind::Ppm, Use::Excess, 2000, 5000)
-}
-
-// Begins a run and closes it, or voids it where close refuses: the number of the refusal, 0 where there is none.
-pub(crate) fn measure(log: &mut Log, level: Level, reference: u32, predicted: u32) -> u32 {
+// Begins a run and closes it, or voids it where close refuses: the number of the refusal, none where the run is taken.
+pub(crate) fn measure(log: &mut Log, level: Level, pair: Pair) -> Option<u32> {
     match log.begin(level) {
-        Err(refusal) => refusal.number(),
-        Ok(run) => match log.close(run, reference, predicted) {
-            Ok(()) => 0,
+        Err(refusal) => Some(refusal.number()),
+        Ok(run) => match log.close(run, pair) {
+            Ok(()) => None,
             Err(CloseRefusal { run, fault }) => {
                 void(log, run);
-                fault.number()
+                Some(fault.number())
             }
         },
     }
@@ -37,12 +34,12 @@ pub(crate) fn void(log: &mut Log, run: BegunRun)
 
 #[test]
 fn twelve_runs_a_level(rt: HostRuntime) -> Result<(), Fail> {
-    let mut log = Log::new(head()?, 7);
+    let mut log = Log::new(ppm(Use::Excess)?, 7);
     for _ in 0..12 {
-        assert_eq!(rt; measure(&mut log, Level::Mid, 2000, 1900), 0);
+        assert_eq!(rt; measure(&mut log, Level::Mid, pair(2000, 1900)), None);
     }
-    assert_eq!(rt; measure(&mut log, Level::Mid, 2000, 1900), 21);
-    assert_eq!(rt; measure(&mut log, Level::High, 2000, 1900), 0);
+    assert_eq!(rt; measure(&mut log, Level::Mid, pair(2000, 1900)), Some(21));
+    assert_eq!(rt; measure(&mut log, Level::High, pair(2000, 1900)), None);
     assert_eq!(rt; log.closed(Level::Mid).len(), 12);
     assert_eq!(rt; log.closed(Level::Low).len(), 0);
     assert_eq!(rt; log.begun(), 13);
@@ -51,15 +48,15 @@ fn twelve_runs_a_level(rt: HostRuntime) -> Result<(), Fail> {
 
 #[test]
 fn ninety_nine_begun(rt: HostRuntime) -> Result<(), Fail> {
-    let mut log = Log::new(head()?, 7);
+    let mut log = Log::new(ppm(Use::Excess)?, 7);
     for _ in 0..12 {
-        assert_eq!(rt; measure(&mut log, Level::Mid, 2000, 1900), 0);
+        assert_eq!(rt; measure(&mut log, Level::Mid, pair(2000, 1900)), None);
     }
     for _ in 12..99 {
-        assert_eq!(rt; measure(&mut log, Level::Low, 50_001, 0), 24);
+        assert_eq!(rt; measure(&mut log, Level::Low, pair(50_001, 0)), Some(24));
     }
-    assert_eq!(rt; measure(&mut log, Level::Low, 0, 0), 22);
-    assert_eq!(rt; measure(&mut log, Level::Mid, 0, 0), 22);
+    assert_eq!(rt; measure(&mut log, Level::Low, pair(0, 0)), Some(22));
+    assert_eq!(rt; measure(&mut log, Level::Mid, pair(0, 0)), Some(22));
     assert_eq!(rt; log.begun(), 99);
     Ok(())
 }
@@ -72,10 +69,13 @@ fn top_readings(rt: HostRuntime) -> Result<(), Fail> {
         (Kind::Diluent, 0, 10_000),
     ] {
         let mut log = Log::new(Head::new(kind, Use::Compliance, emission, 1)?, 0);
-        assert_eq!(rt; measure(&mut log, Level::Low, top, top), 0);
-        assert_eq!(rt; measure(&mut log, Level::Low, top + 1, top), 24);
-        assert_eq!(rt; measure(&mut log, Level::Low, top, top + 1), 25);
-        assert_eq!(rt; measure(&mut log, Level::Low, top + 1, top + 1), 24);
+        assert_eq!(rt; measure(&mut log, Level::Low, pair(top, top)), None);
+        assert_eq!(rt; measure(&mut log, Level::Low, pair(top + 1, top)), Some(24));
+        assert_eq!(rt; measure(&mut log, Level::Low, pair(top, top + 1)), Some(25));
+        assert_eq!(rt;
+            measure(&mut log, Level::Low, pair(top + 1, top + 1)),
+            Some(24)
+        );
         assert_eq!(rt; log.closed(Level::Low).len(), 1);
         assert_eq!(rt; log.begun(), 4);
     }
@@ -84,62 +84,62 @@ fn top_readings(rt: HostRuntime) -> Result<(), Fail> {
 
 #[test]
 fn one_run_at_a_time(rt: HostRuntime) -> Result<(), Fail> {
-    let mut log = Log::new(head()?, 7);
+    let mut log = Log::new(ppm(Use::Excess)?, 7);
     let run = log.begin(Level::Low)?;
     let again = begin_number(&mut log, Level::High);
     let level = log.open_level();
     void(&mut log, run);
-    assert_eq!(rt; again, 20);
+    assert_eq!(rt; again, Some(20));
     assert_eq!(rt; level, Some(Level::Low));
     assert_eq!(rt; log.open_level(), None);
-    assert_eq!(rt; measure(&mut log, Level::High, 1, 1), 0);
+    assert_eq!(rt; measure(&mut log, Level::High, pair(1, 1)), None);
     assert_eq!(rt; log.begun(), 2);
     Ok(())
 }
 
-// The number of begin's refusal. A run that is begun is voided, and the number is then 0.
-fn begin_number(log: &mut Log, level: Level) -> u32
+// The number of begin's refusal, none where a run is begun, which is then voided.
+fn begin_number(log: &mut Log, level: Level) -> Option<u32>
     ensures { is_some (view log.old).current ≡ true → log.new ≡ log.old }
 {
     match log.begin(level) {
-        Err(refusal) => refusal.number(),
+        Err(refusal) => Some(refusal.number()),
         Ok(run) => {
             void(log, run);
-            0
+            None
         }
     }
 }
 
 // A run of serial 7, level low and number 1 is closed in another log, in which some runs were voided and then one is begun:
-// the number of the refusal, 0 where the run is taken.
-fn foreign(rt: &impl Abort, serial: u16, voided: u8, level: Level) -> Result<u32, Fail> {
-    let log = Log::new(head()?, 7);
-    let mut other = Log::new(head()?, serial);
+// the number of the refusal, none where the run is taken.
+fn foreign(rt: &impl Abort, serial: u16, voided: u8, level: Level) -> Result<Option<u32>, Fail> {
+    let log = Log::new(ppm(Use::Excess)?, 7);
+    let mut other = Log::new(ppm(Use::Excess)?, serial);
     for _ in 0..voided {
-        assert_eq!(rt; begin_number(&mut other, level), 0);
+        assert_eq!(rt; begin_number(&mut other, level), None);
     }
     let held = other.begin(level)?;
     Ok(closed_elsewhere(log, &mut other, held))
 }
 
-fn closed_elsewhere(mut log: Log, other: &mut Log, held: BegunRun) -> u32
+fn closed_elsewhere(mut log: Log, other: &mut Log, held: BegunRun) -> Option<u32>
     requires log_value { (view log).current ≡ None }
     requires other_value { (view other.old).current ≡ Some held.id }
 {
     match log.begin(Level::Low) {
         Err(refusal) => {
             void(other, held);
-            refusal.number()
+            Some(refusal.number())
         }
-        Ok(run) => match other.close(run, 1, 1) {
+        Ok(run) => match other.close(run, pair(1, 1)) {
             Ok(()) => {
                 void(&mut log, held);
-                0
+                None
             }
             Err(CloseRefusal { run, fault }) => {
                 void(&mut log, run);
                 void(other, held);
-                fault.number()
+                Some(fault.number())
             }
         },
     }
@@ -147,10 +147,10 @@ fn closed_elsewhere(mut log: Log, other: &mut Log, held: BegunRun) -> u32
 
 #[test]
 fn serial_level_and_number(rt: HostRuntime) -> Result<(), Fail> {
-    assert_eq!(rt; foreign(&rt, 8, 0, Level::Low)?, 23);
-    assert_eq!(rt; foreign(&rt, 7, 0, Level::Mid)?, 23);
-    assert_eq!(rt; foreign(&rt, 7, 1, Level::Low)?, 23);
-    assert_eq!(rt; foreign(&rt, 7, 0, Level::Low)?, 0);
+    assert_eq!(rt; foreign(&rt, 8, 0, Level::Low)?, Some(23));
+    assert_eq!(rt; foreign(&rt, 7, 0, Level::Mid)?, Some(23));
+    assert_eq!(rt; foreign(&rt, 7, 1, Level::Low)?, Some(23));
+    assert_eq!(rt; foreign(&rt, 7, 0, Level::Low)?, None);
     Ok(())
 }
 
@@ -165,8 +165,7 @@ fn named(serial: u16, level: Level, number: u8) -> RunId {
 fn close(run: RunId, reference: u32) -> Call {
     Call::Close {
         run,
-        reference,
-        predicted: 1900,
+        pair: pair(reference, 1900),
     }
 }
 
@@ -189,7 +188,7 @@ fn lists_of_calls(rt: HostRuntime) -> Result<(), Fail> {
         Call::Void(named(7, Level::Low, 2)),
         Call::Begin(Level::High),
     ];
-    let Replayed { mut log, run } = replay(head()?, 7, &calls);
+    let Replayed { mut log, run } = replay(ppm(Use::Excess)?, 7, &calls);
     let still_begun = match run {
         None => None,
         Some(run) => {

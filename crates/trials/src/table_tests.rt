@@ -1,31 +1,21 @@
 // The tables of t and F, read off what the tests answer.
+use crate::test_makings::tally;
 use accuracy::confidence;
 use statistics::is_steady;
 use std::test::Fail;
 use tally::Tally;
-use terms::{Head, Kind, Pair, Use};
+use terms::{Head, Kind, Use};
 
 // One pair, and so many others with no readings.
-fn one_of(n: u64, reference: u32, predicted: u32) -> Result<Tally, Fail> {
-    let mut tally = Tally::none();
-    tally.add(&Pair {
-        reference,
-        predicted,
-    })?;
-    for _ in 1..n {
-        tally.add(&Pair {
-            reference: 0,
-            predicted: 0,
-        })?;
-    }
-    Ok(tally)
+fn one_of(n: u32, reference: u32, predicted: u32) -> Result<Tally, Fail> {
+    tally(&[(1, reference, predicted), (n.saturating_sub(1), 0, 0)])
 }
 
 // With one difference of 1, W is n − 1.
 #[test]
 fn student(rt: HostRuntime) -> Result<(), Fail> {
     for (n, t) in [
-        (3u64, 4303u64),
+        (3u32, 4303u64),
         (4, 3182),
         (5, 2776),
         (6, 2571),
@@ -36,7 +26,7 @@ fn student(rt: HostRuntime) -> Result<(), Fail> {
         (11, 2228),
         (12, 2201),
     ] {
-        let squared = t.wrapping_mul(t).wrapping_mul(n.wrapping_sub(1));
+        let squared = t.wrapping_mul(t).wrapping_mul(u64::from(n.wrapping_sub(1)));
         assert_eq!(rt;
             confidence(&one_of(n, 1, 0)?),
             Some(squared),

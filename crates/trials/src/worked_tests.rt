@@ -1,33 +1,16 @@
 // The worked pairs, put to the code.
+use crate::test_makings::{ppm, tally};
 use accuracy::pollutant;
 use statistics::{are_correlated, is_steady};
 use std::test::Fail;
 use tally::Tally;
-use terms::{Head, Kind, Pair, Use};
+use terms::Use;
 use worked::{Edge, worked_pairs};
-
-// So many times the same pair, one after the other.
-fn tally(runs: &[(u32, u32, u32)]) -> Result<Tally, Fail> {
-    let mut tally = Tally::none();
-    for (n, reference, predicted) in runs {
-        for _ in 0..*n {
-            tally.add(&Pair {
-                reference: *reference,
-                predicted: *predicted,
-            })?;
-        }
-    }
-    Ok(tally)
-}
-
-fn head() -> Result<Head, Fail> {
-    Ok(Head::new(Kind::Ppm, Use::Compliance, 2000, 5000)?)
-}
 
 fn accurate(at: &[(u32, u32, u32)], beyond: &[(u32, u32, u32)]) -> Result<Edge, Fail> {
     Ok(Edge {
-        at: pollutant(&head()?, &tally(at)?),
-        beyond: pollutant(&head()?, &tally(beyond)?),
+        at: pollutant(&ppm(Use::Compliance)?, &tally(at)?),
+        beyond: pollutant(&ppm(Use::Compliance)?, &tally(beyond)?),
     })
 }
 
@@ -51,8 +34,8 @@ fn variance(rt: HostRuntime) -> Result<(), Fail> {
     let at = tally(&[(4, 2100, 2185), (4, 1900, 1815), (1, 2000, 2000)])?;
     let beyond = tally(&[(4, 2100, 2186), (4, 1900, 1814), (1, 2000, 2000)])?;
     let edge = Edge {
-        at: is_steady(&head()?, &at),
-        beyond: is_steady(&head()?, &beyond),
+        at: is_steady(&ppm(Use::Compliance)?, &at),
+        beyond: is_steady(&ppm(Use::Compliance)?, &beyond),
     };
     assert_eq!(rt; edge, worked_pairs().variance);
     Ok(())
