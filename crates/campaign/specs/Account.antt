@@ -1,6 +1,5 @@
 -- The account of a campaign: what its calls leave, from their arguments alone.
-use Rattle.std.specs.Prelude.{ℕ, ◌+◌, Bool, false, cond, ◌&&◌, ◌||◌, List, [], ◌∷◌, ◌++◌, length, is_some, Some, None, fold, Option, nat_le}
-use Rattle.campaign.specs.contracts.RunIdPartialEq.TheImpl as run_eq
+use Rattle.std.specs.Prelude.{ℕ, ◌+◌, Bool, true, false, cond, ◌&&◌, ◌||◌, List, [], ◌∷◌, ◌++◌, length, is_some, Some, None, fold, Option, ◌==◌, nat_le}
 use Rattle.campaign.specs.declared.RunId.{RunId}
 use Rattle.campaign.specs.declared.replaying.Call.{Call}
 use Rattle.campaign.specs.declared.replaying.Call.TheVariants.{Begin, Close, Void, Judge}
@@ -38,9 +37,13 @@ opened a level = record {
   current = Some (record { serial = a.serial; level = level; number = a.begun + 1 });
 }
 
--- the derived equality: the same serial, level and number
+abbrev pub same_level : Level → Level → Bool
+same_level Low l = at_level (record { low = true; mid = false; high = false }) l
+same_level Mid l = at_level (record { low = false; mid = true; high = false }) l
+same_level High l = at_level (record { low = false; mid = false; high = true }) l
+
 abbrev pub same_run : RunId → RunId → Bool
-same_run = (run_eq.ghosts).eq
+same_run a b = a.serial == b.serial && (same_level a.level b.level && a.number == b.number)
 
 -- the run has the serial, level and number of the one that is begun and not ended
 abbrev pub is_open : Option RunId → RunId → Bool

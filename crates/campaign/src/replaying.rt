@@ -23,6 +23,7 @@ pub enum Call {
 pub struct Replayed {
     pub log: Log,
     pub run: Option<BegunRun>,
+    ghost held: { held_id run ≡ (view log).current },
 }
 
 // Makes an empty campaign and gives it the calls one after another, refused ones included.
@@ -30,80 +31,62 @@ pub fn replay(head: Head, serial: u16, calls: &[Call]) -> Replayed
     ensures account { view result.log ≡ account head serial calls.now }
     ensures run { held_id result.run ≡ (view result.log).current }
 {
-    let mut log = Log::new(head, serial);
-    let run = log.follow_all(calls);
-    Replayed { log, run }
+    let mut replayed = Replayed {
+        log: Log::new(head, serial),
+        run: None,
+    };
+    for call in calls {
+        replayed = replayed.follow(*call);
+    }
+    replayed
 }
 
 // The run that is begun and not ended is held beside the log from call to call: a call that names it is given that run
 // itself. Where a call names another, a run is made to that description, for this call alone, and it is proved to be
 // refused. It is made and taken apart in `refuse`, and nowhere else.
-impl Log {
-    fn follow_all(&mut self, calls: &[Call]) -> Option<BegunRun>
-        requires { (view self.old).current ≡ None }
-        ensures account { view self.new ≡ fold step (view self.old) calls.now }
-        ensures run { held_id result ≡ (view self.new).current }
-    {
-        let mut held = None;
-        for call in calls {
-            held = self.follow(held, *call);
-        }
-        held
-    }
-
-    fn follow(&mut self, held: Option<BegunRun>, call: Call) -> Option<BegunRun>
-        requires { held_id held ≡ (view self.old).current }
-        ensures account { view self.new ≡ step (view self.old) call }
-        ensures run { held_id result ≡ (view self.new).current }
+impl Replayed {
+    fn follow(self, call: Call) -> Replayed
+        ensures { view result.log ≡ step (view self.log) call }
     {
         match call {
-            Call::Begin(level) => self.follow_begin(held, level),
-            Call::Close { run, pair } => self.follow_end(held, run, Some(pair)),
-            Call::Void(run) => self.follow_end(held, run, None),
-            Call::Judge => held,
+            Call::Begin(level) => self.begin(level),
+            Call::Close { run, pair } => self.end(run, Some(pair)),
+            Call::Void(run) => self.end(run, None),
+            Call::Judge => self,
         }
     }
 
-    fn follow_begin(&mut self, held: Option<BegunRun>, level: Level) -> Option<BegunRun>
-        requires { held_id held ≡ (view self.old).current }
-        ensures account { view self.new ≡ step (view self.old) (Begin level) }
-        ensures run { held_id result ≡ (view self.new).current }
+    fn begin(self, level: Level) -> Replayed
+        ensures { view result.log ≡ step (view self.log) (Begin level) }
     {
-        match self.begin(level) {
+        let Replayed { mut log, run: held } = self;
+        let run = match log.begin(level) {
             Err(_) => held,
             Ok(run) => match held {
                 None => Some(run),
                 Some(_) => unreachable(),
             },
-        }
+        };
+        Replayed { log, run }
     }
 
     // Ends the run that is named: closes it with the pair, or voids it where there is none.
-    fn follow_end(
-        &mut self,
-        held: Option<BegunRun>,
-        named: RunId,
-        pair: Option<Pair>,
-    ) -> Option<BegunRun>
-        requires { held_id held ≡ (view self.old).current }
-        ensures account { view self.new ≡ step (view self.old) (end_call named pair) }
-        ensures run { held_id result ≡ (view self.new).current }
+    fn end(self, named: RunId, pair: Option<Pair>) -> Replayed
+        ensures { view result.log ≡ step (view self.log) (end_call named pair) }
     {
-        match held {
-            None => {
-                self.refuse(named, pair);
-                None
+        let Replayed { mut log, run: held } = self;
+        let run = match held {
+            Some(run) if run.id == named => log.end(run, pair),
+            held => {
+                log.refuse(named, pair);
+                held
             }
-            Some(run) => {
-                if run.id == named {
-                    return self.end(run, pair);
-                }
-                self.refuse(named, pair);
-                Some(run)
-            }
-        }
+        };
+        Replayed { log, run }
     }
+}
 
+impl Log {
     // Gives a run to close, or to void where there is no pair, and returns it where it is refused.
     fn end(&mut self, run: BegunRun, pair: Option<Pair>) -> Option<BegunRun>
         ensures account { view self.new ≡ step (view self.old) (end_call run.id pair) }
@@ -126,11 +109,6 @@ impl Log {
         ensures account { view self.new ≡ step (view self.old) (end_call named pair) }
         ensures same { self.new ≡ self.old }
     {
-        match self.end(BegunRun { id: named }, pair) {
-            None => unreachable(),
-            Some(run) => {
-                let BegunRun { id: _ } = run;
-            }
-        }
+        let BegunRun { id: _ } = self.end(BegunRun { id: named }, pair).unwrap();
     }
 }

@@ -3,7 +3,7 @@ use Rattle.runs.specs.Sets.{kept}
 use Rattle.runs.proofs.Kept.{all_kept, more_kept, more_struck}
 use Rattle.tally.specs.Sums.{sums_of}
 use Rattle.tally.specs.declared.sums.Sums.{Sums}
-use Rattle.tally.specs.declared.tallies.Tally.{Tally}
+use Rattle.tally.specs.Tallying.{Tally}
 use Rattle.terms.specs.declared.pairs.Pair.{Pair}
 use Rattle.terms.proofs.Highest.{higher_at}
 use Rattle.runs.proofs.ClosedRuns.kept.Goals as goal
