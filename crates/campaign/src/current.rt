@@ -38,10 +38,7 @@ impl Log {
             Level::Mid => self.closed.mid.push(pair),
             Level::High => self.closed.high.push(pair),
         };
+        pushed.unwrap();
         self.current = None;
-        match pushed {
-            Ok(()) => {}
-            Err(_) => unreachable(),
-        }
     }
 }

@@ -78,9 +78,7 @@ impl Crew {
         requires { (view self.old.log).current ≡ Some run.id }
         ensures { view self.new.log ≡ ended (view self.old.log) }
     {
-        match self.log.void(run) {
-            Ok(()) => self.voided = self.voided.saturating_add(1),
-            Err(_) => unreachable(),
-        }
+        self.log.void(run).unwrap();
+        self.voided = self.voided.saturating_add(1);
     }
 }

@@ -26,10 +26,7 @@ pub(crate) fn measure(log: &mut Log, level: Level, pair: Pair) -> Option<u32> {
 pub(crate) fn void(log: &mut Log, run: BegunRun)
     requires { (view log.old).current ≡ Some run.id }
 {
-    match log.void(run) {
-        Ok(()) => {}
-        Err(_) => unreachable(),
-    }
+    log.void(run).unwrap();
 }
 
 #[test]
