@@ -1,14 +1,15 @@
 -- What a level's shortlists have to show for it.
-use Rattle.std.proofs.Common.{◌≡◌, ℕ, zero, suc, ◌+◌, ◌<◌, ◌≤◌, Bool, true, false, not, cond, ltb, eqb, ◌⊎◌, [], ◌∷◌, length, get_or, map, Some, None, sym, refl, ap, ◌∙◌, inl, inr, ⊎_elim, arith, List, min}
+use Rattle.std.proofs.Common.{◌≡◌, ℕ, zero, suc, ◌+◌, ◌<◌, ◌≤◌, Bool, true, false, not, cond, ltb, eqb, ◌⊎◌, [], ◌∷◌, length, get_or, map, Some, None, Option, sym, refl, ap, ◌∙◌, inl, inr, ⊎_elim, arith, List, min}
 use lib.Count.{ones}
-use Rattle.std.specs.List.{list_any, position, position_or_len, reduce, fold}
-use Rattle.std.proofs.lemmas.Bool.{not-false, cases_lt, cond-true, cond_both, false_from_ne_true, lt-ltb, eqb-false, eqb-true, not-true}
+use Rattle.std.specs.List.{fold, list_any, position, position_or_len, reduce}
+use Rattle.std.specs.Option.{ok_or}
+use Rattle.std.proofs.lemmas.Bool.{cases_lt, cond-true, cond_both, eqb-false, eqb-true, false_from_ne_true, lt-ltb, not-false, not-true}
 use borrow.Author.Tests.{clash}
 use Rattle.std.proofs.lemmas.List.{get_or-map}
 use Rattle.std.proofs.lemmas.Option.{none-some}
 use Rattle.std.proofs.lemmas.List.Folds.{Any-from_list_any, list_any_at}
 use Rattle.std.proofs.lemmas.List.Quantifiers.{position-Some}
-use Rattle.judge.specs.Causes.{Lightest, Wants}
+use Rattle.judge.specs.Causes.{Lightest, Shows, Wants}
 use Rattle.judge.specs.Search.{Groups, accurate_in, group}
 use Rattle.judge.specs.Sets.{Accurate, Fits, Passes}
 use Rattle.judge.specs.Shortlists.{Whole, item, listed}
@@ -83,7 +84,7 @@ module _ (m : Meaning) (lawful : Lawful m) (at : Level) (runs : List Pair) where
 
   -- one list of all sets
   module _ (list : Shortlist) (w : Whole m at runs 0 3 list) where
-    pub list_lightest : (n : ℕ) → reduce min (map (λ (e : Entry). e.struck) (listed list)) ≡ Some n → Lightest m at runs n
+    list_lightest : (n : ℕ) → reduce min (map (λ (e : Entry). e.struck) (listed list)) ≡ Some n → Lightest m at runs n
     list_lightest n is =
         let some = least_of (listed list) n is in
         let k = some.0.0 in
@@ -99,13 +100,17 @@ module _ (m : Meaning) (lawful : Lawful m) (at : Level) (runs : List Pair) where
               omega (arith, some.1 found.0 found.1, there.struck, ap ones found.2);
         }
 
-    pub list_wants : reduce min (map (λ (e : Entry). e.struck) (listed list)) ≡ None → Wants m at runs (cond list.accurate (Statistics at) (Accuracy at))
+    list_wants : reduce min (map (λ (e : Entry). e.struck) (listed list)) ≡ None → Wants m at runs (cond list.accurate (Statistics at) (Accuracy at))
     list_wants is =
         let none = none_of (listed list) is in
         wants list.accurate
         (λ set fits passes. let found = w.complete set fits.closed (omega arith, three set fits) fits passes in omega (arith, found.1))
         w.some
         (λ e set fits right. w.none e set fits.closed (omega arith, three set fits) fits right)
+
+    pub list_shows : (fewest : Option ℕ) → fewest ≡ reduce min (map (λ (e : Entry). e.struck) (listed list)) → Shows m at runs (ok_or fewest (cond list.accurate (Statistics at) (Accuracy at)))
+    list_shows None is = list_wants (sym is)
+    list_shows (Some n) is = list_lightest n (sym is)
 
   -- the same sets in four groups
   module _ (lows : ByCount) (w : Groups m at runs lows) where

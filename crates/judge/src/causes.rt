@@ -1,5 +1,5 @@
 // Why no allowed selection meets a standard.
-ghost use Rattle.std.specs.Prelude.{◌≡◌, List, if◌then◌else◌, map, min, not, ◌==◌};
+ghost use Rattle.std.specs.Prelude.{◌≡◌, List, ◌==◌, if◌then◌else◌, map, min, not};
 ghost use Rattle.arrayvec.specs.ArrayVec.{array_vec_len};
 ghost use Rattle.std.specs.List.{list_any, position, reduce};
 ghost use Rattle.judge.specs.Causes.{Shows, ShowsInAll};
@@ -57,6 +57,7 @@ impl ByCount {
         self.groups.iter().position(|list| !list.entries.is_empty())
     }
 
+    // Whether any group has an accurate set.
     fn accurate(&self) -> bool
         ensures { result ≡ list_any (λ list. list.accurate) self.now.groups }
     {
@@ -69,12 +70,10 @@ impl Shortlist {
     fn fewest(&self, level: Level) -> Result<u8, Cause>
         ensures { (m : Meaning) (runs : List Pair) → Lawful m → Whole m level runs 0 3 self.now → Shows m level runs result }
     {
-        match self.least() {
-            Some(fewest) => Ok(fewest),
-            None => Err(wanting(level, self.accurate)),
-        }
+        self.least().ok_or(wanting(level, self.accurate))
     }
 
+    // The fewest that a set of the list strikes, if it has any.
     fn least(&self) -> Option<u8>
         ensures { result ≡ reduce min (map (λ e. e.struck) (listed self.now)) }
     {

@@ -55,7 +55,8 @@ impl<'a, S: Standard> Search<'a, S> {
     {
         let mut found = None;
         let mids = self.mid.items();
-        'search: for h in self.high.items() {
+        let highs = self.high.items();
+        'search: for h in highs {
             for m in mids {
                 let others = u32::from(h.struck) + u32::from(m.struck);
                 if others > total || total - others > 3 {

@@ -13,7 +13,7 @@ alike P p q h = rw (← p, ← q) h
 pub loop-m-preserved-then-others-total : goal.loop-m-preserved-then-others-total
 loop-m-preserved-then-others-total g c =
     let mid_is = read c.items-mids.result.now c.loop-m.m-index c.m-item.result c.loop-m-test.true c.m-item.is in
-    let high_is = read c.items-h-items.result.now c.search.h-index c.h-item.result c.search-test.true c.h-item.is in
+    let high_is = read c.items-highs.result.now c.search.h-index c.h-item.result c.search-test.true c.h-item.is in
     let none = not_there _ c.args.self.now.low _ _ c.args.total _ _ _ _ mid_is high_is (c.from.result + c.from-in-loop-m.result) (omega arith) in (
       c.loop-m.invariant.0,
       next_mid _ _ _ _ _ 0 _ _ c.loop-m.invariant.1 (λ i here. absurd (elim c.then-others-total.branch [
@@ -25,7 +25,7 @@ loop-m-preserved-then-others-total g c =
 pub loop-l-preserved : goal.loop-l-preserved
 loop-l-preserved g c =
     let mid_is = read c.items-mids.result.now c.loop-m.m-index c.m-item.result c.loop-m-test.true c.m-item.is in
-    let high_is = read c.items-h-items.result.now c.search.h-index c.h-item.result c.search-test.true c.h-item.is in
+    let high_is = read c.items-highs.result.now c.search.h-index c.h-item.result c.search-test.true c.h-item.is in
     let lows = c.striking-l-items.ensures in
     let low_is = ap (λ xs. item xs c.loop-l.l-index) (sym lows) ∙ read _ c.loop-l.l-index c.l-item.result c.loop-l-test.true c.l-item.is in (
       c.loop-l.invariant.0,
@@ -36,7 +36,7 @@ loop-l-preserved g c =
 pub loop-m-preserved : goal.loop-m-preserved
 loop-m-preserved g c =
     let mid_is = read c.items-mids.result.now c.loop-m.m-index c.m-item.result c.loop-m-test.true c.m-item.is in
-    let high_is = read c.items-h-items.result.now c.search.h-index c.h-item.result c.search-test.true c.h-item.is in
+    let high_is = read c.items-highs.result.now c.search.h-index c.h-item.result c.search-test.true c.h-item.is in
     let all = subst (λ xs. length xs ≤ c.loop-l.l-index) c.striking-l-items.ensures c.loop-l-test.false in (
       c.loop-l.invariant.0,
       next_mid _ _ _ _ _ _ _ _ c.loop-l.invariant.1
@@ -50,18 +50,18 @@ pub returns-after-search : goal.returns-after-search
 returns-after-search g c =
     let m = g.S.Standard.meaning c.args.self.now.standard.now in
     let low = c.args.self.now.low in
-    alike (λ mids highs. MatchOption c.search.found-1 (NoStrike m low mids highs c.args.total) (Found m low mids highs c.args.total)) c.items-mids.ensures c.items-h-items.ensures
-    (subst (λ r. MatchOption r (NoStrike m low c.items-mids.result.now c.items-h-items.result.now c.args.total) (Found m low c.items-mids.result.now c.items-h-items.result.now c.args.total)) (sym c.search.invariant.0)
+    alike (λ mids highs. MatchOption c.search.found-1 (NoStrike m low mids highs c.args.total) (Found m low mids highs c.args.total)) c.items-mids.ensures c.items-highs.ensures
+    (subst (λ r. MatchOption r (NoStrike m low c.items-mids.result.now c.items-highs.result.now c.args.total) (Found m low c.items-mids.result.now c.items-highs.result.now c.args.total)) (sym c.search.invariant.0)
     (no_more _ _ _ _ _ _ c.search.invariant.1 c.search-test.false))
 
 pub returns-then-together : goal.returns-then-together
 returns-then-together g c =
     let m = g.S.Standard.meaning c.args.self.now.standard.now in
     let mid_is = read c.items-mids.result.now c.loop-m.m-index c.m-item.result c.loop-m-test.true c.m-item.is in
-    let high_is = read c.items-h-items.result.now c.search.h-index c.h-item.result c.search-test.true c.h-item.is in
+    let high_is = read c.items-highs.result.now c.search.h-index c.h-item.result c.search-test.true c.h-item.is in
     let lows = c.striking-l-items.ensures in
     let low_is = ap (λ xs. item xs c.loop-l.l-index) (sym lows) ∙ read _ c.loop-l.l-index c.l-item.result c.loop-l-test.true c.l-item.is in
     let within = subst (λ xs. c.loop-l.l-index < length xs) lows c.loop-l-test.true in
-    alike (λ mids highs. Found m c.args.self.now.low mids highs c.args.total (record { low = c.l-item.result.set; mid = c.m-item.result.set; high = c.h-item.result.set })) c.items-mids.ensures c.items-h-items.ensures
+    alike (λ mids highs. Found m c.args.self.now.low mids highs c.args.total (record { low = c.l-item.result.set; mid = c.m-item.result.set; high = c.h-item.result.set })) c.items-mids.ensures c.items-highs.ensures
     (found_here _ c.args.self.now.low _ _ c.args.total _ _ _ _ mid_is high_is (c.args.total - (c.from.result + c.from-in-loop-m.result)) (omega arith) (omega arith) _ _ low_is
     within c.loop-m-test.true c.search-test.true (sym c.together.ensures ∙ c.if-together.true) c.loop-l.invariant.1)
