@@ -1,6 +1,7 @@
 -- What taking pairs into a tally answers, and what the shared spread is.
 use Rattle.std.specs.Prelude.{◌≡◌, ℕ, ◌+◌, ◌*◌, ◌<◌, ◌≤◌, List, [], ◌∷◌, length, pos, ◌≤ℤ◌, Some, None, Ok, Err, Option, Result, refl}
-use Rattle.std.proofs.Common.{zero-le, arith}
+use Rattle.std.proofs.Common.{zero-le}
+use Rattle.std.proofs.Math.Nat.{le-add_right}
 use Rattle.tally.specs.Numbers.{X, Y, Z}
 use Rattle.tally.specs.Sums.{Tallies, none, plus, sums_of}
 use Rattle.tally.specs.declared.sums.Sums.{Sums}
@@ -40,7 +41,7 @@ SharedAnswer s None = Z s ≤ℤ pos 0
 abbrev pub empty : Tally
 empty = record {
   sums = none;
-  few = omega arith;
+  few = le-add_right 12 24;
   real = ∣ ([], record { few = zero-le; within = zero-le; sums = refl }) ∣₁;
   tops = ((zero-le, zero-le, zero-le), (zero-le, zero-le, zero-le), (zero-le, zero-le, zero-le));
   spreads = ((zero-le, zero-le), (zero-le, zero-le));
