@@ -1,12 +1,11 @@
 -- Why none meets the standard, from what each level has to show.
-use Rattle.std.proofs.Common.{◌≡◌, ℕ, ◌+◌, ◌<◌, ◌≤◌, true, false, ltb, [], ◌∷◌, length, Some, None, Option, sym, subst, ⊎_elim, arith, MatchOption}
+use Rattle.std.proofs.Common.{◌≡◌, ℕ, ◌+◌, Bool, true, false, ltb, [], ◌∷◌, length, Some, None, Option, sym, subst, ⊎_elim, arith, MatchOption}
 use Rattle.std.specs.List.{find}
 use Rattle.std.proofs.lemmas.Bool.{cond_both, ltb-false, ltb-true}
 use Rattle.judge.specs.Causes.{Lightest, LightestInAll, Wants}
 use Rattle.judge.specs.Judging.{Barren, Because, Campaign, Enough, First, TooFew}
 use Rattle.judge.specs.Sets.{Fits, Passes}
 use Rattle.judge.specs.declared.verdicts.Cause.{Cause}
-use Rattle.judge.specs.declared.verdicts.Cause.TheVariants.{TooMany, Together}
 use Rattle.judge.proofs.Groups.{by_level}
 use Rattle.runs.specs.Sets.{Selection}
 use Rattle.standard.specs.Meaning.{Meaning}
@@ -40,22 +39,15 @@ module _ (m : Meaning) (c : Campaign) where
             omega arith;
       }
 
-  -- even the fewest are too many
-  pub too_many : (n : ℕ) → LightestInAll m c n → m.most_in_all < n → Because m c TooMany
-  too_many n light over = (light.none_barren, λ x fits passes. omega (arith, light.least x fits passes))
-
-  -- the fewest are few enough
-  pub not_together : (n : ℕ) → LightestInAll m c n → n ≤ m.most_in_all → Because m c Together
-  not_together n light within =
-      (light.none_barren, (light.chosen, record { fits = light.fits; in_all = omega (arith, light.is) }, light.passes))
-
   -- the first level that has too few, if any has
-  pub first_short : MatchOption (find (λ at. ltb (length (at_level c at)) m.least_kept) (Low ∷ Mid ∷ High ∷ [])) (Enough m c) (First (TooFew m c))
-  first_short =
-      let many : (at : Level) → ltb (length (at_level c at)) m.least_kept ≡ false → TooFew m c at → ⊥ = λ at e few. omega (arith, ltb-false (length (at_level c at)) m.least_kept e) in
-      let few : (at : Level) → ltb (length (at_level c at)) m.least_kept ≡ true → TooFew m c at = λ at e. ltb-true (length (at_level c at)) m.least_kept e in
+  pub first_short : (least : ℕ) → least ≡ m.least_kept → (short : Option Level) → short ≡ find (λ at. ltb (length (at_level c at)) least) (Low ∷ Mid ∷ High ∷ []) → MatchOption short (Enough m c) (First (TooFew m c))
+  first_short least least_is short short_is =
+      let few : (at : Level) → Bool = λ at. ltb (length (at_level c at)) least in
+      let yes : (at : Level) → few at ≡ true → TooFew m c at = λ at e. omega (arith, ltb-true (length (at_level c at)) least e) in
+      let no : (at : Level) → few at ≡ false → TooFew m c at → ⊥ = λ at e few. omega (arith, ltb-false (length (at_level c at)) least e) in
       let Right : Option Level → Type 0 = λ r. MatchOption r (Enough m c) (First (TooFew m c)) in
-      cond_both (ltb (length c.low) m.least_kept) (Some Low) _ Right (few Low)
-      (λ low. cond_both (ltb (length c.mid) m.least_kept) (Some Mid) _ Right (λ mid. (many Low low, few Mid mid))
-      (λ mid. cond_both (ltb (length c.high) m.least_kept) (Some High) None Right (λ high. (many Low low, many Mid mid, few High high))
-      (λ high. by_level (λ at. TooFew m c at → ⊥) (many Low low) (many Mid mid) (many High high))))
+      subst Right (sym short_is)
+      (cond_both (few Low) (Some Low) _ Right (yes Low)
+      (λ low. cond_both (few Mid) (Some Mid) _ Right (λ mid. (no Low low, yes Mid mid))
+      (λ mid. cond_both (few High) (Some High) None Right (λ high. (no Low low, no Mid mid, yes High high))
+      (λ high. by_level (λ at. TooFew m c at → ⊥) (no Low low) (no Mid mid) (no High high)))))

@@ -11,6 +11,7 @@ use arrayvec::ArrayVec;
 use runs::ClosedRuns;
 use standard::Standard;
 use std::ops::RangeInclusive;
+use tally::Tally;
 use terms::Level;
 
 // The closed runs of a level, and the standard by which sets of them are struck.
@@ -64,6 +65,20 @@ impl<S: Standard> Candidates<'_, S> {
             && (limits.least_kept + struck) as usize <= self.runs.len()
     }
 
+    // Whether kept runs are accurate.
+    fn accurate(&self, kept: &Tally) -> bool
+        ensures { result ≡ (S.meaning self.now.standard.now).accuracy self.now.level kept.now.sums }
+    {
+        self.standard.accuracy(self.level, kept)
+    }
+
+    // Whether they pass the statistical tests.
+    fn steady(&self, kept: &Tally) -> bool
+        ensures { result ≡ (S.meaning self.now.standard.now).statistics self.now.level kept.now.sums }
+    {
+        self.standard.statistics(self.level, kept)
+    }
+
     // Takes a set in where it strikes so many, fits and gets both yeses.
     fn consider(&self, set: u32, strikes: &RangeInclusive<u32>, list: &mut Shortlist)
         requires closed { set < 2 ^ length (pairs_of self.now.runs.now) }
@@ -75,11 +90,11 @@ impl<S: Standard> Candidates<'_, S> {
             return;
         }
         let kept = self.runs.kept(set);
-        if !self.standard.accuracy(self.level, &kept) {
+        if !self.accurate(&kept) {
             return;
         }
         list.accurate = true;
-        if self.standard.statistics(self.level, &kept) {
+        if self.steady(&kept) {
             list.entries.push(Entry {
                 set,
                 struck: set.count_ones() as u8,

@@ -1,5 +1,4 @@
-use Rattle.std.proofs.Common.{◌≤◌, length, sym}
-use Rattle.std.proofs.lemmas.Option.{MatchOption-at_none, MatchOption-at_some}
+use Rattle.std.proofs.Common.{◌≤◌, length}
 use Rattle.judge.proofs.Blame.{first_short}
 use Rattle.judge.proofs.Found.{fewest_best, none_meets}
 use Rattle.judge.proofs.Groups.{by_level}
@@ -9,9 +8,7 @@ use Rattle.terms.specs.Levels.{at_level}
 use Rattle.judge.proofs.judging.weigh.Goals as goal
 
 pub returns-in-Some : goal.returns-in-Some
-returns-in-Some g c =
-    let m = g.S.Standard.meaning c.args.standard.now in
-    MatchOption-at_some _ _ _ (sym (rw c.limits.ensures.least_kept at c.in-Some.ensures)) (first_short m (lists_of c.args.closed.now))
+returns-in-Some g c = first_short (g.S.Standard.meaning c.args.standard.now) (lists_of c.args.closed.now) _ c.limits.ensures.least_kept _ c.in-Some.ensures
 
 pub returns-in-Some-fewest : goal.returns-in-Some-fewest
 returns-in-Some-fewest g c =
@@ -20,8 +17,7 @@ returns-in-Some-fewest g c =
     let fewest = rw c.new-search.ensures.standard at c.in-Some-fewest.ensures in
     fewest_best (g.S.Standard.meaning standard) (g.met.S.Standard.lawful standard) (lists_of closed) _ _ _ c.new-search.ensures.whole
     (by_level (λ at. length (at_level (lists_of closed) at) ≤ 12) (few_pairs closed.low) (few_pairs closed.mid) (few_pairs closed.high))
-    (MatchOption-at_none _ _ (sym (rw c.limits.ensures.least_kept at c.in_default.ensures)) (first_short (g.S.Standard.meaning standard) (lists_of closed)))
-    _ _ fewest
+    (first_short (g.S.Standard.meaning standard) (lists_of closed) _ c.limits.ensures.least_kept _ c.in_default.ensures) _ _ fewest
 
 pub returns-in-None : goal.returns-in-None
 returns-in-None g c =
@@ -30,7 +26,7 @@ returns-in-None g c =
     let none = rw c.new-search.ensures.standard at c.in-None.ensures in
     let because = rw c.new-search.ensures.standard at c.cause.ensures in
     record {
-      enough = MatchOption-at_none _ _ (sym (rw c.limits.ensures.least_kept at c.in_default.ensures)) (first_short (g.S.Standard.meaning standard) closed);
+      enough = first_short (g.S.Standard.meaning standard) closed _ c.limits.ensures.least_kept _ c.in_default.ensures;
       none = none_meets (g.S.Standard.meaning standard) (g.met.S.Standard.lawful standard) closed _ _ _ c.new-search.ensures.whole none;
       because = because closed c.new-search.ensures.whole;
     }

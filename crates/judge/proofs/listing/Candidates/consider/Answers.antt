@@ -14,12 +14,12 @@ use Rattle.judge.proofs.listing.Candidates.consider.Goals as goal
 pub returns-then-not-takes : goal.returns-then-not-takes
 returns-then-not-takes g c = passed_over _ _ _ _ _ _ _ _ c.requires.begun (λ b f _. c.if-not-takes.ensures b f)
 
-pub returns-then-not-accuracy : goal.returns-then-not-accuracy
-returns-then-not-accuracy g c =
+pub returns-then-not-accurate : goal.returns-then-not-accurate
+returns-then-not-accurate g c =
     let self = c.args.self.now in
     let m = g.S.Standard.meaning self.standard.now in
     passed_over _ _ _ _ _ _ _ _ c.requires.begun
-    (λ _ _ a. clash (sym c.if-not-accuracy.true ∙ c.accuracy.ensures ∙ ap (m.accuracy self.level) c.kept-kept.ensures ∙ a))
+    (λ _ _ a. clash (sym c.if-not-accurate.true ∙ c.accurate.ensures ∙ ap (m.accuracy self.level) c.kept-kept.ensures ∙ a))
 
 pub push-requires : goal.push-requires
 push-requires g c =
@@ -28,8 +28,8 @@ push-requires g c =
     let most = (g.met.S.Standard.lawful self.standard.now).struck_to in
     (omega arith, room c.args.set _ (below_4096 _ _ (few_pairs self.runs.now) c.requires.closed) (omega (arith, fits.strikes)) (omega (arith, c.requires.begun.few)))
 
-pub returns-then-statistics : goal.returns-then-statistics
-returns-then-statistics g c =
+pub returns-then-steady : goal.returns-then-steady
+returns-then-steady g c =
     let self = c.args.self.now in
     let m = g.S.Standard.meaning self.standard.now in
     let at = self.level in
@@ -41,8 +41,8 @@ returns-then-statistics g c =
     let tallied = c.kept-kept.ensures in
     let taken = c.if-not-takes.ensures in
     let passes : Passes m at runs set = record {
-      accurate = ap (m.accuracy at) (sym tallied) ∙ sym c.accuracy.ensures ∙ c.if-not-accuracy.false;
-      steady = ap (m.statistics at) (sym tallied) ∙ sym c.statistics.ensures ∙ c.if-statistics.true;
+      accurate = ap (m.accuracy at) (sym tallied) ∙ sym c.accurate.ensures ∙ c.if-not-accurate.false;
+      steady = ap (m.statistics at) (sym tallied) ∙ sym c.steady.ensures ∙ c.if-steady.true;
     } in
     let e : Entry = record { set = set; struck = ones set; kept = c.kept-kept.result } in
     let entry : Listed m at runs e = record { fits = taken.1; passes = passes; struck = refl; tallied = tallied } in
@@ -50,12 +50,12 @@ returns-then-statistics g c =
     let grown = taken_in m at runs from to set (listed list) list.accurate c.requires.begun e refl taken.0 entry (below_4096 _ _ (few_pairs self.runs.now) c.requires.closed) three in
     subst (λ items. Upto m at runs from to (set + 1) items true) (sym c.push.ensures.items) grown
 
-pub returns-else-statistics : goal.returns-else-statistics
-returns-else-statistics g c =
+pub returns-else-steady : goal.returns-else-steady
+returns-else-steady g c =
     let self = c.args.self.now in
     let m = g.S.Standard.meaning self.standard.now in
     let at = self.level in
     let tallied = c.kept-kept.ensures in
-    let accurate : Accurate m at (pairs_of self.runs.now) c.args.set = ap (m.accuracy at) (sym tallied) ∙ sym c.accuracy.ensures ∙ c.if-not-accuracy.false in
+    let accurate : Accurate m at (pairs_of self.runs.now) c.args.set = ap (m.accuracy at) (sym tallied) ∙ sym c.accurate.ensures ∙ c.if-not-accurate.false in
     accurate_only _ _ _ _ _ _ _ _ c.requires.begun c.if-not-takes.ensures.1 accurate
-    (λ p. clash (sym c.if-statistics.false ∙ c.statistics.ensures ∙ ap (m.statistics at) tallied ∙ p.steady))
+    (λ p. clash (sym c.if-steady.false ∙ c.steady.ensures ∙ ap (m.statistics at) tallied ∙ p.steady))
