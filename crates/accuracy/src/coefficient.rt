@@ -11,6 +11,7 @@ pub fn confidence(tally: &Tally) -> Option<u64>
     ensures { ConfidenceAnswer tally.now.sums result }
 {
     let beyond_three = tally.sums.n.checked_sub(3)?;
+    // An index has no `From` of a `u64`.
     let t = STUDENT[beyond_three as usize];
     Some(t * t * tally.difference_spread())
 }

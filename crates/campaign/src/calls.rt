@@ -11,7 +11,7 @@ use runs::ClosedRuns;
 use terms::{Head, Level, Levels, Pair};
 
 impl Log {
-    // A campaign with no runs.
+    // A campaign with no runs. Its head and serial are given apart, since the log is the struct that holds them.
     pub fn new(head: Head, serial: u16) -> Log
         ensures { view result ≡ start head serial }
     {

@@ -33,6 +33,7 @@ impl Log {
         requires within { higher pair ≤ top_reading self.old.head.kind }
         ensures { view self.new ≡ closed_with (view self.old) level pair }
     {
+        // A `&mut` to one of the three is beyond today's borrow checker, so each level has its own push.
         let pushed = match level {
             Level::Low => self.closed.low.push(pair),
             Level::Mid => self.closed.mid.push(pair),

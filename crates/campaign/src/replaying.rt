@@ -64,6 +64,7 @@ impl Replayed {
             Err(_) => held,
             Ok(run) => match held {
                 None => Some(run),
+                // A begun run cannot be let go, so this is a match and no `unwrap`.
                 Some(_) => unreachable(),
             },
         };

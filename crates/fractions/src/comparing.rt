@@ -1,5 +1,6 @@
 // Two fractions are held against each other by their whole parts. Where these are equal, the remainders decide, turned over:
-// of two fractions the greater has the smaller one turned over, so the question changes sides.
+// of two fractions the greater has the smaller one turned over, so the question changes sides. The two questions are functions
+// of their own, and no order on a type, since each is answered by the other with smaller denominators.
 ghost use Rattle.std.specs.Prelude.{◌≡◌, ◌+◌, ◌*◌, ◌<◌};
 ghost use Rattle.fractions.specs.Order.{is_at_least, is_at_most};
 

@@ -28,6 +28,7 @@ impl Default for Entry {
 #[derive(Drop)]
 pub(crate) struct Shortlist {
     pub(crate) entries: ArrayVec<Entry, 299>,
+    // It tells of sets that are not in the list too, so it is no part of an entry.
     pub(crate) accurate: bool,
 }
 

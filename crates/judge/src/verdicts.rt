@@ -28,7 +28,7 @@ pub enum Verdict {
 }
 
 impl Cause {
-    // The number by which a cause is told.
+    // The number by which a cause is told, matched, since a case that holds a level can carry no number.
     pub fn number(self) -> u32
         ensures { result ≡ cause_number self }
     {
@@ -52,7 +52,7 @@ impl Cause {
 }
 
 impl Verdict {
-    // The number by which a refusal or a denial is told.
+    // The number by which a refusal or a denial is told, matched for the same reason.
     pub fn number(self) -> Option<u32>
         ensures { result ≡ verdict_number self }
     {

@@ -56,6 +56,7 @@ impl ClosedRuns {
         ensures { result.sums ≡ sums_of (kept struck (pairs_of self.now)) }
     {
         let mut tally = Tally::none();
+        // Halved beside the pairs, as the definition of what is kept does.
         let mut rest = struck;
         let pairs = self.as_slice();
         for pair in pairs {

@@ -12,7 +12,8 @@ mod keeping;
 pub type Selection = Levels<u32>;
 
 // At most twelve runs, in closing order, with no reading over 50,000, which is the top of any kind.
-// What lies beyond the first `count` pairs means nothing.
+// What lies beyond the first `count` pairs means nothing. An array and a count need no memory of their own and can be copied, so
+// that a log can hand out its closed runs and never fail.
 #[derive(Clone, Copy)]
 pub struct ClosedRuns {
     runs: [Pair; 12],

@@ -1,4 +1,5 @@
-// Layers over any standard, which they hold by value.
+// Layers over any standard, which they hold by value. Each hands on by itself what it does not change, since the trait can hold
+// no body that would be right under every meaning.
 ghost use Rattle.std.specs.Prelude.{◌≤◌};
 
 use terms::Head;

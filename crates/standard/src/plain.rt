@@ -41,7 +41,8 @@ impl Standard for Pollutant {
     }
 }
 
-// Relative accuracy within 20 percent of the references.
+// Relative accuracy within 20 percent of the references. Its other two answers are a pollutant's too, but the trait can hold no
+// body that would be right under every meaning.
 #[derive(Clone, Copy)]
 pub struct Diluent;
 

@@ -20,7 +20,7 @@ pub struct Limits {
 pub trait Standard {
     ghost meaning: { Self → Meaning };
 
-    // Whether the runs kept at a level are accurate.
+    // Whether the runs kept at a level are accurate. The level stands beside the tally, which other questions are about without one.
     fn accuracy(&self, level: Level, kept: &Tally) -> bool
         ensures { result ≡ (meaning self.now).accuracy level kept.now.sums };
 
@@ -28,7 +28,8 @@ pub trait Standard {
     fn statistics(&self, level: Level, kept: &Tally) -> bool
         ensures { result ≡ (meaning self.now).statistics level kept.now.sums };
 
-    // Whether the runs kept at the three levels pass together. Any of the tallies may be empty.
+    // Whether the runs kept at the three levels pass together. Any of the tallies may be empty. They are three references, since
+    // one struct of them would be filled anew for each of millions of selections.
     fn together(&self, low: &Tally, mid: &Tally, high: &Tally) -> bool
         ensures { result ≡ (meaning self.now).together low.now.sums mid.now.sums high.now.sums };
 

@@ -19,6 +19,7 @@ pub fn is_steady(head: &Head, tally: &Tally) -> bool
     let Some(beyond_nine) = n.checked_sub(9) else {
         return false;
     };
+    // An index has no `From` of a `u64`.
     let f = CRITICAL[beyond_nine as usize];
     let x = tally.reference_spread();
     let y = tally.predicted_spread();

@@ -22,7 +22,7 @@ impl<S> Absolute<S> {
 }
 
 impl<S> MarginRefusal<S> {
-    // The number by which the refusal is told.
+    // The number by which the refusal is told, which a struct can carry in no case.
     pub fn number(&self) -> u32
         ensures { result ≡ margin_number }
     {
@@ -36,7 +36,7 @@ impl<S: Standard> Standard for Absolute<S> {
     ghost lawful = { Prim.search rules };
 
     fn accuracy(&self, level: Level, kept: &Tally) -> bool {
-        self.below.accuracy(level, kept) || kept.distance() <= self.margin as u64 * kept.sums.n
+        self.below.accuracy(level, kept) || kept.distance() <= u64::from(self.margin) * kept.sums.n
     }
 
     fn statistics(&self, level: Level, kept: &Tally) -> bool {
