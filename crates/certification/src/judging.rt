@@ -14,7 +14,8 @@ pub fn judge_by<S: Standard>(standard: &S, log: &Log) -> Verdict
     judge(standard, &log.runs())
 }
 
-// The same by PS-16. The pile of layers is chosen by the head before the search, so that each is a search of its own.
+// The same by PS-16. The pile of layers is chosen by the head before the search, so that each is a search of its own: were `Ps16`
+// a standard itself, each of its questions would choose anew.
 pub fn judge_by_ps16(log: &Log) -> Verdict
     ensures { Law (ps16 (view log.now).head) (view log.now).closed result }
 {

@@ -8,6 +8,7 @@ use tally::Tally;
 #[derive(Clone, Copy)]
 pub(crate) struct Entry {
     pub(crate) set: u32,
+    // A byte, so that sums of counts fit by their type.
     pub(crate) struck: u8,
     pub(crate) kept: Tally,
 }
