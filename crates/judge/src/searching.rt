@@ -59,12 +59,15 @@ impl<'a, S: Standard> Search<'a, S> {
         'search: for h in highs {
             for m in mids {
                 let others = u32::from(h.struck) + u32::from(m.struck);
-                if others > total || total - others > 3 {
+                let Some(rest) = total.checked_sub(others) else {
+                    continue;
+                };
+                if rest > 3 {
                     continue;
                 }
                 // Held by value, so that the innermost loop does not load them again.
                 let (mid_kept, high_kept) = (m.kept, h.kept);
-                for l in self.low.striking(total - others) {
+                for l in self.low.striking(rest) {
                     if self.standard.together(&l.kept, &mid_kept, &high_kept) {
                         found = Some(Selection {
                             low: l.set,
