@@ -1,4 +1,4 @@
-// The calls that keep a log.
+// The calls that keep a log. Each says for itself that a refusal leaves the log as it was, which no type can say.
 ghost use Rattle.std.specs.Prelude.{◌≡◌, IfOk, Some, OnErr};
 ghost use Rattle.campaign.specs.Account.{start, step};
 ghost use Rattle.campaign.specs.Answers.{BeginAnswer, CloseAnswer, VoidAnswer};

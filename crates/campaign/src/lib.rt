@@ -32,7 +32,8 @@ pub struct BegunRun {
     id: RunId,
 }
 
-// A run's number is how many were begun with it, so of the run that is begun and not ended only the level is kept.
+// A run's number is how many were begun with it, so of the run that is begun and not ended only the level is kept. A log has no
+// model, by which clauses would compare accounts: a refusal leaves it as it was, to the last field.
 #[derive(Drop)]
 pub struct Log {
     head: Head,

@@ -23,6 +23,12 @@ pub enum Call {
 pub struct Replayed {
     pub log: Log,
     pub run: Option<BegunRun>,
+}
+
+// A log between two calls, and the run that is begun and not ended, which its type keeps.
+struct Following {
+    log: Log,
+    run: Option<BegunRun>,
     ghost held: { held_id run ≡ (view log).current },
 }
 
@@ -31,21 +37,22 @@ pub fn replay(head: Head, serial: u16, calls: &[Call]) -> Replayed
     ensures account { view result.log ≡ account head serial calls.now }
     ensures run { held_id result.run ≡ (view result.log).current }
 {
-    let mut replayed = Replayed {
+    let mut following = Following {
         log: Log::new(head, serial),
         run: None,
     };
     for call in calls {
-        replayed = replayed.follow(*call);
+        following = following.follow(*call);
     }
-    replayed
+    let Following { log, run } = following;
+    Replayed { log, run }
 }
 
 // The run that is begun and not ended is held beside the log from call to call: a call that names it is given that run
 // itself. Where a call names another, a run is made to that description, for this call alone, and it is proved to be
 // refused. It is made and taken apart in `refuse`, and nowhere else.
-impl Replayed {
-    fn follow(self, call: Call) -> Replayed
+impl Following {
+    fn follow(self, call: Call) -> Following
         ensures { view result.log ≡ step (view self.log) call }
     {
         match call {
@@ -56,10 +63,10 @@ impl Replayed {
         }
     }
 
-    fn begin(self, level: Level) -> Replayed
+    fn begin(self, level: Level) -> Following
         ensures { view result.log ≡ step (view self.log) (Begin level) }
     {
-        let Replayed { mut log, run: held } = self;
+        let Following { mut log, run: held } = self;
         let run = match log.begin(level) {
             Err(_) => held,
             Ok(run) => match held {
@@ -68,14 +75,14 @@ impl Replayed {
                 Some(_) => unreachable(),
             },
         };
-        Replayed { log, run }
+        Following { log, run }
     }
 
     // Ends the run that is named: closes it with the pair, or voids it where there is none.
-    fn end(self, named: RunId, pair: Option<Pair>) -> Replayed
+    fn end(self, named: RunId, pair: Option<Pair>) -> Following
         ensures { view result.log ≡ step (view self.log) (end_call named pair) }
     {
-        let Replayed { mut log, run: held } = self;
+        let Following { mut log, run: held } = self;
         let run = match held {
             Some(run) if run.id == named => log.end(run, pair),
             held => {
@@ -83,7 +90,7 @@ impl Replayed {
                 held
             }
         };
-        Replayed { log, run }
+        Following { log, run }
     }
 }
 
@@ -94,14 +101,11 @@ impl Log {
         ensures back { HandedBack self.old run self.new result }
     {
         match pair {
-            Some(pair) => match self.close(run, pair) {
-                Ok(()) => None,
-                Err(CloseRefusal { run, fault: _ }) => Some(run),
-            },
-            None => match self.void(run) {
-                Ok(()) => None,
-                Err(VoidRefusal { run }) => Some(run),
-            },
+            Some(pair) => self
+                .close(run, pair)
+                .err()
+                .map(|CloseRefusal { run, fault: _ }| run),
+            None => self.void(run).err().map(|VoidRefusal { run }| run),
         }
     }
 

@@ -64,12 +64,9 @@ impl Crew {
         requires { (view self.old.log).current ≡ Some run.id }
         ensures { view self.new.log ≡ finished (view self.old.log) run.id pair }
     {
-        match self.log.close(run, pair) {
-            Ok(()) => {}
-            Err(CloseRefusal { run, fault: _ }) => {
-                self.refused = self.refused.saturating_add(1);
-                self.void(run);
-            }
+        if let Err(CloseRefusal { run, fault: _ }) = self.log.close(run, pair) {
+            self.refused = self.refused.saturating_add(1);
+            self.void(run);
         }
     }
 

@@ -5,8 +5,9 @@ mod crew;
 
 use campaign::BeginRefusal;
 use crew::Crew;
-use std::{fmt, io};
+use std::io;
 use terms::{Head, HeadRefusal, Kind, Level, Pair, Use};
+use thiserror::Error;
 
 fn main(rt: HostRuntime) -> io::Result<()> {
     match boiler() {
@@ -15,33 +16,13 @@ fn main(rt: HostRuntime) -> io::Result<()> {
     }
 }
 
-// Why a campaign came to no end.
-#[derive(Clone, Copy)]
+// Why a campaign came to no end, told by its number.
+#[derive(Debug, Drop, Error)]
 enum Refusal {
-    Head(HeadRefusal),
-    Begin(BeginRefusal),
-}
-
-// A refusal is told by its number.
-impl fmt::Display for Refusal {
-    fn fmt<W: fmt::Write>(&self, f: &mut fmt::Formatter<W>) -> fmt::Result {
-        match self {
-            Refusal::Head(refusal) => write!(f, "{}", refusal.number()),
-            Refusal::Begin(refusal) => write!(f, "{}", refusal.number()),
-        }
-    }
-}
-
-impl From<HeadRefusal> for Refusal {
-    fn from(refusal: HeadRefusal) -> Refusal {
-        Refusal::Head(refusal)
-    }
-}
-
-impl From<BeginRefusal> for Refusal {
-    fn from(refusal: BeginRefusal) -> Refusal {
-        Refusal::Begin(refusal)
-    }
+    #[error("{}", .0.number())]
+    Head(#[from] HeadRefusal),
+    #[error("{}", .0.number())]
+    Begin(#[from] BeginRefusal),
 }
 
 // A boiler with a standard of 40 ppm is measured at three loads, in units of 0.1 ppm. Twice a reading is keyed in wrong,
@@ -49,22 +30,15 @@ impl From<BeginRefusal> for Refusal {
 fn boiler() -> Result<Crew, Refusal> {
     let head = Head::new(Kind::Ppm, Use::Excess, 400, 1000)?;
     let mut crew = Crew::new(head, 1);
-    crew.measure_two(Level::Low, pair(212, 208), pair(205, 209))?;
-    crew.measure(Level::Low, pair(218, 214))?;
-    crew.measure(Level::Mid, pair(398_000, 396))?;
+    crew.measure_two(Level::Low, Pair::new(212, 208), Pair::new(205, 209))?;
+    crew.measure(Level::Low, Pair::new(218, 214))?;
+    crew.measure(Level::Mid, Pair::new(398_000, 396))?;
     crew.give_up(Level::Mid)?;
-    crew.measure_two(Level::Mid, pair(401, 396), pair(394, 399))?;
-    crew.measure(Level::Mid, pair(410, 402))?;
-    crew.measure_two(Level::High, pair(655, 661_000), pair(655, 661))?;
-    crew.measure_two(Level::High, pair(648, 650), pair(660, 652))?;
+    crew.measure_two(Level::Mid, Pair::new(401, 396), Pair::new(394, 399))?;
+    crew.measure(Level::Mid, Pair::new(410, 402))?;
+    crew.measure_two(Level::High, Pair::new(655, 661_000), Pair::new(655, 661))?;
+    crew.measure_two(Level::High, Pair::new(648, 650), Pair::new(660, 652))?;
     Ok(crew)
-}
-
-fn pair(reference: u32, predicted: u32) -> Pair {
-    Pair {
-        reference,
-        predicted,
-    }
 }
 
 // A line for each level with its closed runs, then how many runs were begun and voided, and how many closes were refused.

@@ -6,7 +6,8 @@ ghost use Rattle.linked.specs.Linked.{correlated};
 
 use fractions::Fraction;
 
-// Whether 25·z² is at least 16·x·y, for numbers from 1 to 2^58.
+// Whether 25·z² is at least 16·x·y, for numbers from 1 to 2^58: the question of `statistics::are_correlated`, of numbers that no
+// tally vouches for.
 #[unsafe(no_mangle)]
 pub extern "C" fn curatsef_correlated(x: u64, y: u64, z: u64) -> bool
     ensures { result ≡ correlated x y z }

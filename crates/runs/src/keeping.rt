@@ -14,12 +14,8 @@ impl ClosedRuns {
     pub fn new() -> ClosedRuns
         ensures { pairs_of result ≡ [] }
     {
-        let none = Pair {
-            reference: 0,
-            predicted: 0,
-        };
         ClosedRuns {
-            runs: [none; 12],
+            runs: [Pair::default(); 12],
             count: 0,
         }
     }
@@ -56,7 +52,7 @@ impl ClosedRuns {
         ensures { result.sums ≡ sums_of (kept struck (pairs_of self.now)) }
     {
         let mut tally = Tally::none();
-        // Halved beside the pairs, as the definition of what is kept does.
+        // Halved beside the pairs, as the definition of what is kept halves it: a shift by an index would need a lemma.
         let mut rest = struck;
         let pairs = self.as_slice();
         for pair in pairs {

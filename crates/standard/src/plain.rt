@@ -41,8 +41,9 @@ impl Standard for Pollutant {
     }
 }
 
-// Relative accuracy within 20 percent of the references. Its other two answers are a pollutant's too, but the trait can hold no
-// body that would be right under every meaning.
+// Relative accuracy within 20 percent of the references. What else it tells is what a pollutant's standard tells: a
+// trait and a struct to share these three words would be longer than they are, and the trait `Standard` can hold no body that is
+// right under every meaning.
 #[derive(Clone, Copy)]
 pub struct Diluent;
 

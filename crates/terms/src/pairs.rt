@@ -1,5 +1,5 @@
 // Pairs of readings.
-ghost use Rattle.std.specs.Prelude.{Some};
+ghost use Rattle.std.specs.Prelude.{◌≡◌, Some};
 ghost use Rattle.terms.specs.Pairs.{AdmitAnswer};
 ghost use Rattle.terms.specs.Texts.{pair_text};
 
@@ -12,7 +12,7 @@ const MOST_PAIRS: usize = 12;
 const TOP_READING: u32 = 50_000;
 
 // A run's reference reading and the reading that the monitor predicted beside it, in units of the monitor's kind.
-#[derive(Clone, Copy, PartialEq, Eq, Debug)]
+#[derive(Clone, Copy, PartialEq, Eq, Debug, Default)]
 pub struct Pair {
     pub reference: u32,
     pub predicted: u32,
@@ -28,6 +28,16 @@ pub enum PairRefusal {
 }
 
 impl Pair {
+    pub fn new(reference: u32, predicted: u32) -> Pair
+        ensures reference { result.reference ≡ reference }
+        ensures predicted { result.predicted ≡ predicted }
+    {
+        Pair {
+            reference,
+            predicted,
+        }
+    }
+
     // Whether the pair is taken in among the pairs of a level, beside so many others.
     pub fn admit(self, others: usize) -> Result<(), PairRefusal>
         ensures { AdmitAnswer others self result }

@@ -2,7 +2,7 @@
 ghost use Rattle.std.proofs.Common.{rules};
 
 use crate::log_tests::{measure, void};
-use crate::test_makings::{pair, ppm};
+use crate::test_makings::ppm;
 use campaign::{Call, Log, Replayed, RunId};
 use certification::{Judged, judge_by, judge_by_ps16, replay_and_judge};
 use judge::{Cause, Verdict};
@@ -33,6 +33,7 @@ fn close_all(rt: &impl Abort, log: &mut Log, level: Level, runs: Runs) {
     }
 }
 
+// Three slices, and no `Levels` of them, so that most calls fit on a line.
 fn log_of(rt: &impl Abort, head: Head, low: Runs, mid: Runs, high: Runs) -> Log {
     let mut log = Log::new(head, 7);
     close_all(rt, &mut log, Level::Low, low);
@@ -74,10 +75,10 @@ fn certificates(rt: HostRuntime) -> Result<(), Fail> {
 #[test]
 fn choice_among_equals(rt: HostRuntime) -> Result<(), Fail> {
     let far = &[
-        pair(2000, 1799),
-        pair(2000, 1800),
-        pair(2000, 1800),
-        pair(2000, 1800),
+        Pair::new(2000, 1799),
+        Pair::new(2000, 1800),
+        Pair::new(2000, 1800),
+        Pair::new(2000, 1800),
     ];
     assert_eq!(rt;
         excess_verdict(&rt, far, &THREE_RIGHT, far)?,
@@ -109,7 +110,11 @@ fn excess_causes(rt: HostRuntime) -> Result<(), Fail> {
         Verdict::Denied(Cause::Accuracy(Level::Mid))
     );
     let two = &[RIGHT, RIGHT, RIGHT, WRONG, WRONG];
-    let high = &[pair(3000, 3000), pair(3000, 3000), pair(3000, 3000)];
+    let high = &[
+        Pair::new(3000, 3000),
+        Pair::new(3000, 3000),
+        Pair::new(3000, 3000),
+    ];
     assert_eq!(rt;
         excess_verdict(&rt, two, two, high)?,
         Verdict::Denied(Cause::TooMany)
@@ -118,7 +123,7 @@ fn excess_causes(rt: HostRuntime) -> Result<(), Fail> {
 }
 
 fn nine(reference: u32, predicted: u32) -> [Pair; 9] {
-    [pair(reference, predicted); 9]
+    [Pair::new(reference, predicted); 9]
 }
 
 fn compliance_verdict(
@@ -156,13 +161,21 @@ fn compliance(rt: HostRuntime) -> Result<(), Fail> {
 #[test]
 fn diluents(rt: HostRuntime) -> Result<(), Fail> {
     let excess = Head::new(Kind::Diluent, Use::Excess, 0, 2500)?;
-    let apart = &[pair(400, 300), pair(400, 300), pair(400, 300)];
+    let apart = &[
+        Pair::new(400, 300),
+        Pair::new(400, 300),
+        Pair::new(400, 300),
+    ];
     let log = log_of(
         &rt,
         excess,
         apart,
         apart,
-        &[pair(400, 299), pair(400, 299), pair(400, 299)],
+        &[
+            Pair::new(400, 299),
+            Pair::new(400, 299),
+            Pair::new(400, 299),
+        ],
     );
     assert_eq!(rt;
         judge_by_ps16(&log),
@@ -244,7 +257,7 @@ fn a_list_of_calls(rt: HostRuntime) -> Result<(), Fail> {
         Call::Begin(Level::High),
         Call::Close {
             run,
-            pair: pair(1, 1),
+            pair: Pair::new(1, 1),
         },
         Call::Void(run),
         Call::Judge,

@@ -2,7 +2,7 @@
 ghost use Rattle.std.specs.Prelude.{◌≡◌, true, is_some, Some, None};
 ghost use Rattle.campaign.specs.View.{view};
 
-use crate::test_makings::{pair, ppm};
+use crate::test_makings::ppm;
 use campaign::{BegunRun, Call, CloseRefusal, Log, Replayed, RunId, replay};
 use std::process::Abort;
 use std::test::Fail;
@@ -33,10 +33,13 @@ pub(crate) fn void(log: &mut Log, run: BegunRun)
 fn twelve_runs_a_level(rt: HostRuntime) -> Result<(), Fail> {
     let mut log = Log::new(ppm(Use::Excess)?, 7);
     for _ in 0..12 {
-        assert_eq!(rt; measure(&mut log, Level::Mid, pair(2000, 1900)), None);
+        assert_eq!(rt; measure(&mut log, Level::Mid, Pair::new(2000, 1900)), None);
     }
-    assert_eq!(rt; measure(&mut log, Level::Mid, pair(2000, 1900)), Some(21));
-    assert_eq!(rt; measure(&mut log, Level::High, pair(2000, 1900)), None);
+    assert_eq!(rt;
+        measure(&mut log, Level::Mid, Pair::new(2000, 1900)),
+        Some(21)
+    );
+    assert_eq!(rt; measure(&mut log, Level::High, Pair::new(2000, 1900)), None);
     assert_eq!(rt; log.closed(Level::Mid).len(), 12);
     assert_eq!(rt; log.closed(Level::Low).len(), 0);
     assert_eq!(rt; log.begun(), 13);
@@ -47,13 +50,16 @@ fn twelve_runs_a_level(rt: HostRuntime) -> Result<(), Fail> {
 fn ninety_nine_begun(rt: HostRuntime) -> Result<(), Fail> {
     let mut log = Log::new(ppm(Use::Excess)?, 7);
     for _ in 0..12 {
-        assert_eq!(rt; measure(&mut log, Level::Mid, pair(2000, 1900)), None);
+        assert_eq!(rt; measure(&mut log, Level::Mid, Pair::new(2000, 1900)), None);
     }
     for _ in 12..99 {
-        assert_eq!(rt; measure(&mut log, Level::Low, pair(50_001, 0)), Some(24));
+        assert_eq!(rt;
+            measure(&mut log, Level::Low, Pair::new(50_001, 0)),
+            Some(24)
+        );
     }
-    assert_eq!(rt; measure(&mut log, Level::Low, pair(0, 0)), Some(22));
-    assert_eq!(rt; measure(&mut log, Level::Mid, pair(0, 0)), Some(22));
+    assert_eq!(rt; measure(&mut log, Level::Low, Pair::new(0, 0)), Some(22));
+    assert_eq!(rt; measure(&mut log, Level::Mid, Pair::new(0, 0)), Some(22));
     assert_eq!(rt; log.begun(), 99);
     Ok(())
 }
@@ -66,11 +72,17 @@ fn top_readings(rt: HostRuntime) -> Result<(), Fail> {
         (Kind::Diluent, 0, 10_000),
     ] {
         let mut log = Log::new(Head::new(kind, Use::Compliance, emission, 1)?, 0);
-        assert_eq!(rt; measure(&mut log, Level::Low, pair(top, top)), None);
-        assert_eq!(rt; measure(&mut log, Level::Low, pair(top + 1, top)), Some(24));
-        assert_eq!(rt; measure(&mut log, Level::Low, pair(top, top + 1)), Some(25));
+        assert_eq!(rt; measure(&mut log, Level::Low, Pair::new(top, top)), None);
         assert_eq!(rt;
-            measure(&mut log, Level::Low, pair(top + 1, top + 1)),
+            measure(&mut log, Level::Low, Pair::new(top + 1, top)),
+            Some(24)
+        );
+        assert_eq!(rt;
+            measure(&mut log, Level::Low, Pair::new(top, top + 1)),
+            Some(25)
+        );
+        assert_eq!(rt;
+            measure(&mut log, Level::Low, Pair::new(top + 1, top + 1)),
             Some(24)
         );
         assert_eq!(rt; log.closed(Level::Low).len(), 1);
@@ -89,7 +101,7 @@ fn one_run_at_a_time(rt: HostRuntime) -> Result<(), Fail> {
     assert_eq!(rt; again, Some(20));
     assert_eq!(rt; level, Some(Level::Low));
     assert_eq!(rt; log.open_level(), None);
-    assert_eq!(rt; measure(&mut log, Level::High, pair(1, 1)), None);
+    assert_eq!(rt; measure(&mut log, Level::High, Pair::new(1, 1)), None);
     assert_eq!(rt; log.begun(), 2);
     Ok(())
 }
@@ -128,7 +140,7 @@ fn closed_elsewhere(mut log: Log, other: &mut Log, held: BegunRun) -> Option<u32
             void(other, held);
             Some(refusal.number())
         }
-        Ok(run) => match other.close(run, pair(1, 1)) {
+        Ok(run) => match other.close(run, Pair::new(1, 1)) {
             Ok(()) => {
                 void(&mut log, held);
                 None
@@ -162,7 +174,7 @@ fn named(serial: u16, level: Level, number: u8) -> RunId {
 fn close(run: RunId, reference: u32) -> Call {
     Call::Close {
         run,
-        pair: pair(reference, 1900),
+        pair: Pair::new(reference, 1900),
     }
 }
 

@@ -8,19 +8,12 @@ pub(crate) fn ppm(usage: Use) -> Result<Head, Fail> {
     Ok(Head::new(Kind::Ppm, usage, 2000, 5000)?)
 }
 
-pub(crate) fn pair(reference: u32, predicted: u32) -> Pair {
-    Pair {
-        reference,
-        predicted,
-    }
-}
-
 // So many times the same pair, one after the other.
 pub(crate) fn tally(runs: &[(u32, u32, u32)]) -> Result<Tally, Fail> {
     let mut tally = Tally::none();
     for (n, reference, predicted) in runs {
         for _ in 0..*n {
-            tally.add(&pair(*reference, *predicted))?;
+            tally.add(&Pair::new(*reference, *predicted))?;
         }
     }
     Ok(tally)

@@ -1,4 +1,5 @@
-// Three tallies together.
+// Three tallies together, given as a standard is given them. They are added field by field: a sum of any two `Sums` would have to
+// ask that they fit.
 ghost use Rattle.std.specs.Prelude.{◌≡◌};
 ghost use Rattle.tally.specs.Sums.{plus};
 

@@ -25,6 +25,7 @@ impl Tally {
             return Err(PairRefusal::Full);
         }
         let mut tally = Tally::none();
+        // A loop over the elements, which is how a tally is worked out.
         for pair in pairs {
             tally.add(pair)?;
         }
