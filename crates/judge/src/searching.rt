@@ -24,16 +24,24 @@ impl<'a, S: Standard> Search<'a, S> {
         ensures standard { result.standard.now ≡ standard.now }
         ensures whole { Searches (S.meaning standard.now) (lists_of closed.now) result.low result.mid result.high }
     {
-        let at = |level: Level| Candidates {
+        let at = |level: Level, from: u32, to: u32| Candidates {
             standard,
             level,
             runs: closed.at(level),
+            strikes: from..=to,
         };
         Search {
             standard,
-            low: at(Level::Low).by_count(),
-            mid: at(Level::Mid).shortlist(0..=3),
-            high: at(Level::High).shortlist(0..=3),
+            low: ByCount {
+                groups: [
+                    at(Level::Low, 0, 0).shortlist(),
+                    at(Level::Low, 1, 1).shortlist(),
+                    at(Level::Low, 2, 2).shortlist(),
+                    at(Level::Low, 3, 3).shortlist(),
+                ],
+            },
+            mid: at(Level::Mid, 0, 3).shortlist(),
+            high: at(Level::High, 0, 3).shortlist(),
         }
     }
 
