@@ -47,6 +47,7 @@ impl<S: Standard> Candidates<'_, S> {
         let limits = self.standard.limits();
         self.strikes.contains(&struck)
             && struck <= limits.most_struck
+            // A length has no `From` of a `u32`.
             && (limits.least_kept + struck) as usize <= self.runs.len()
     }
 
@@ -81,6 +82,7 @@ impl<S: Standard> Candidates<'_, S> {
         if self.steady(&kept) {
             list.entries.push(Entry {
                 set,
+                // A byte has no `From` of a count of bits, which is a `u32`.
                 struck: set.count_ones() as u8,
                 kept,
             });

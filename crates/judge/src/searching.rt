@@ -11,6 +11,7 @@ use standard::Standard;
 use terms::{Level, Levels};
 
 // The shortlists of the three levels under a standard.
+// That they are whole stands in clauses: it shows sets, and a ghost field may hold only a fact that cannot hold in two ways.
 #[derive(Drop)]
 pub(crate) struct Search<'a, S> {
     pub(crate) standard: &'a S,
@@ -64,6 +65,7 @@ impl<'a, S: Standard> Search<'a, S> {
         let mut found = None;
         let mids = self.mid.items();
         let highs = self.high.items();
+        // Three loops in one function, left by the label as soon as the selection is certain.
         'search: for h in highs {
             for m in mids {
                 let others = u32::from(h.struck) + u32::from(m.struck);
@@ -97,6 +99,7 @@ impl ByCount {
         requires { count ≤ 3 }
         ensures { result.now ≡ group self.now count }
     {
+        // An index has no `From` of a `u32`.
         self.groups[count as usize].items()
     }
 }
