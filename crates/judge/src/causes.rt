@@ -45,6 +45,7 @@ impl ByCount {
         ensures { (m : Meaning) (runs : List Pair) → Lawful m → Groups m level runs self.now → Shows m level runs result }
     {
         match self.least() {
+            // A byte has no `From` of an index.
             Some(count) => Ok(count as u8),
             None => Err(wanting(level, self.accurate())),
         }

@@ -40,5 +40,6 @@ fn short(least: u32, closed: &Levels<ClosedRuns>) -> Option<Level>
     Level::ALL
         .iter()
         .copied()
+        // A length has no `From` of a `u32`.
         .find(|level| closed.at(*level).len() < least as usize)
 }

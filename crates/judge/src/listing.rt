@@ -1,12 +1,11 @@
 // How a level's sets are gone through, each asked accuracy and statistics once.
 ghost use Rattle.std.specs.Prelude.{◌≡◌, ◌+◌, ◌^◌, ◌<◌, false, length, MatchBool};
 ghost use Rattle.std.specs.Range.{range_inclusive_start, range_inclusive_end, range_inclusive_exhausted};
-ghost use Rattle.judge.specs.Search.{Groups};
 ghost use Rattle.judge.specs.Sets.{Fits};
 ghost use Rattle.judge.specs.Shortlists.{Between, Gathered, Whole, listed};
 ghost use Rattle.runs.specs.Closed.{pairs_of};
 
-use crate::shortlists::{ByCount, Entry, Shortlist};
+use crate::shortlists::{Entry, Shortlist};
 use arrayvec::ArrayVec;
 use runs::ClosedRuns;
 use standard::Standard;
@@ -14,54 +13,41 @@ use std::ops::RangeInclusive;
 use tally::Tally;
 use terms::Level;
 
-// The closed runs of a level, and the standard by which sets of them are struck.
+// The sets of a level's closed runs that strike so many, and the standard by which they are struck.
 #[derive(Drop)]
 pub(crate) struct Candidates<'a, S> {
     pub(crate) standard: &'a S,
     pub(crate) level: Level,
     pub(crate) runs: &'a ClosedRuns,
+    pub(crate) strikes: RangeInclusive<u32>,
+    ghost fresh: { range_inclusive_exhausted strikes ≡ false },
 }
 
 impl<S: Standard> Candidates<'_, S> {
-    // All sets that fit and get both yeses, by how many they strike.
-    pub(crate) fn by_count(&self) -> ByCount
-        ensures { Groups (S.meaning self.now.standard.now) self.now.level (pairs_of self.now.runs.now) result }
-    {
-        ByCount {
-            groups: [
-                self.shortlist(0..=0),
-                self.shortlist(1..=1),
-                self.shortlist(2..=2),
-                self.shortlist(3..=3),
-            ],
-        }
-    }
-
     // All sets that fit, get both yeses, and strike so many.
-    pub(crate) fn shortlist(&self, strikes: RangeInclusive<u32>) -> Shortlist
-        requires fresh { range_inclusive_exhausted strikes ≡ false }
-        ensures { Whole (S.meaning self.now.standard.now) self.now.level (pairs_of self.now.runs.now) (range_inclusive_start strikes) (range_inclusive_end strikes) result }
+    pub(crate) fn shortlist(&self) -> Shortlist
+        ensures { Whole (S.meaning self.now.standard.now) self.now.level (pairs_of self.now.runs.now) (range_inclusive_start self.now.strikes) (range_inclusive_end self.now.strikes) result }
     {
         let mut list = Shortlist {
             entries: ArrayVec::new(),
             accurate: false,
         };
         for set in 0..(1u32 << self.runs.len()) {
-            self.consider(set, &strikes, &mut list);
+            self.consider(set, &mut list);
         }
         list
     }
 
     // Whether a set strikes so many, and fits.
-    fn takes(&self, set: u32, strikes: &RangeInclusive<u32>) -> bool
+    fn takes(&self, set: u32) -> bool
         requires closed { set < 2 ^ length (pairs_of self.now.runs.now) }
-        requires fresh { range_inclusive_exhausted strikes.now ≡ false }
-        ensures { MatchBool result (Between (range_inclusive_start strikes.now) (range_inclusive_end strikes.now) set × Fits (S.meaning self.now.standard.now) (pairs_of self.now.runs.now) set) (Between (range_inclusive_start strikes.now) (range_inclusive_end strikes.now) set → Fits (S.meaning self.now.standard.now) (pairs_of self.now.runs.now) set → ⊥) }
+        ensures { MatchBool result (Between (range_inclusive_start self.now.strikes) (range_inclusive_end self.now.strikes) set × Fits (S.meaning self.now.standard.now) (pairs_of self.now.runs.now) set) (Between (range_inclusive_start self.now.strikes) (range_inclusive_end self.now.strikes) set → Fits (S.meaning self.now.standard.now) (pairs_of self.now.runs.now) set → ⊥) }
     {
         let struck = set.count_ones();
         let limits = self.standard.limits();
-        strikes.contains(&struck)
+        self.strikes.contains(&struck)
             && struck <= limits.most_struck
+            // A length has no `From` of a `u32`.
             && (limits.least_kept + struck) as usize <= self.runs.len()
     }
 
@@ -80,13 +66,12 @@ impl<S: Standard> Candidates<'_, S> {
     }
 
     // Takes a set in where it strikes so many, fits and gets both yeses.
-    fn consider(&self, set: u32, strikes: &RangeInclusive<u32>, list: &mut Shortlist)
+    fn consider(&self, set: u32, list: &mut Shortlist)
         requires closed { set < 2 ^ length (pairs_of self.now.runs.now) }
-        requires fresh { range_inclusive_exhausted strikes.now ≡ false }
-        requires begun { Gathered (S.meaning self.now.standard.now) self.now.level (pairs_of self.now.runs.now) (range_inclusive_start strikes.now) (range_inclusive_end strikes.now) set list.old }
-        ensures { Gathered (S.meaning self.now.standard.now) self.now.level (pairs_of self.now.runs.now) (range_inclusive_start strikes.now) (range_inclusive_end strikes.now) (set + 1) list.new }
+        requires begun { Gathered (S.meaning self.now.standard.now) self.now.level (pairs_of self.now.runs.now) (range_inclusive_start self.now.strikes) (range_inclusive_end self.now.strikes) set list.old }
+        ensures { Gathered (S.meaning self.now.standard.now) self.now.level (pairs_of self.now.runs.now) (range_inclusive_start self.now.strikes) (range_inclusive_end self.now.strikes) (set + 1) list.new }
     {
-        if !self.takes(set, strikes) {
+        if !self.takes(set) {
             return;
         }
         let kept = self.runs.kept(set);
@@ -97,6 +82,7 @@ impl<S: Standard> Candidates<'_, S> {
         if self.steady(&kept) {
             list.entries.push(Entry {
                 set,
+                // A byte has no `From` of a count of bits, which is a `u32`.
                 struck: set.count_ones() as u8,
                 kept,
             });

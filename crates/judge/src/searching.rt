@@ -11,6 +11,7 @@ use standard::Standard;
 use terms::{Level, Levels};
 
 // The shortlists of the three levels under a standard.
+// That they are whole stands in clauses: it shows sets, and a ghost field may hold only a fact that cannot hold in two ways.
 #[derive(Drop)]
 pub(crate) struct Search<'a, S> {
     pub(crate) standard: &'a S,
@@ -24,16 +25,24 @@ impl<'a, S: Standard> Search<'a, S> {
         ensures standard { result.standard.now ≡ standard.now }
         ensures whole { Searches (S.meaning standard.now) (lists_of closed.now) result.low result.mid result.high }
     {
-        let at = |level: Level| Candidates {
+        let at = |level: Level, from: u32, to: u32| Candidates {
             standard,
             level,
             runs: closed.at(level),
+            strikes: from..=to,
         };
         Search {
             standard,
-            low: at(Level::Low).by_count(),
-            mid: at(Level::Mid).shortlist(0..=3),
-            high: at(Level::High).shortlist(0..=3),
+            low: ByCount {
+                groups: [
+                    at(Level::Low, 0, 0).shortlist(),
+                    at(Level::Low, 1, 1).shortlist(),
+                    at(Level::Low, 2, 2).shortlist(),
+                    at(Level::Low, 3, 3).shortlist(),
+                ],
+            },
+            mid: at(Level::Mid, 0, 3).shortlist(),
+            high: at(Level::High, 0, 3).shortlist(),
         }
     }
 
@@ -56,6 +65,7 @@ impl<'a, S: Standard> Search<'a, S> {
         let mut found = None;
         let mids = self.mid.items();
         let highs = self.high.items();
+        // Three loops in one function, left by the label as soon as the selection is certain.
         'search: for h in highs {
             for m in mids {
                 let others = u32::from(h.struck) + u32::from(m.struck);
@@ -89,6 +99,7 @@ impl ByCount {
         requires { count ≤ 3 }
         ensures { result.now ≡ group self.now count }
     {
+        // An index has no `From` of a `u32`.
         self.groups[count as usize].items()
     }
 }

@@ -14,6 +14,7 @@ pub(crate) struct Entry {
 }
 
 // What stands in the places of a list that are not taken.
+// A derive would want a `Default` of `Tally`, which a type that keeps facts about its sums cannot derive.
 impl Default for Entry {
     fn default() -> Entry {
         Entry {

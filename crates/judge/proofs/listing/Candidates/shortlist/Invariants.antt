@@ -6,4 +6,4 @@ use Rattle.judge.proofs.listing.Candidates.shortlist.Given as goal
 -- the sets so far
 abbrev pub invariant-loop-set : goal.invariant-loop-set
 invariant-loop-set g l =
-    Gathered (g.S.Standard.meaning l.self.standard.now) l.self.level (pairs_of l.self.runs.now) (range_inclusive_start l.strikes) (range_inclusive_end l.strikes) l.set l.list
+    Gathered (g.S.Standard.meaning l.self.standard.now) l.self.level (pairs_of l.self.runs.now) (range_inclusive_start l.self.strikes) (range_inclusive_end l.self.strikes) l.set l.list

@@ -15,6 +15,6 @@ returns-then-struck-limits g c =
     either (leb needed c.len.result) _ _
     (λ e.
     let enough = leb-true needed c.len.result e in
-    let between : Between (range_inclusive_start c.args.strikes.now) (range_inclusive_end c.args.strikes.now) c.args.set = search rules in
+    let between : Between (range_inclusive_start c.args.self.now.strikes) (range_inclusive_end c.args.self.now.strikes) c.args.set = search rules in
     (between, record { closed = c.requires.closed; keeps = omega arith; strikes = omega arith }))
     (λ e between fits. let wanting = leb-false needed c.len.result e in omega (arith, fits.keeps))
