@@ -3,9 +3,9 @@ use Rattle.std.specs.Prelude.{◌≡◌, ℕ, ◌+◌, cond, length, is_some, So
 use Rattle.campaign.specs.Account.{Account, is_current, is_reading}
 use Rattle.campaign.specs.Refusals.{begin_number, close_number, void_number}
 use Rattle.campaign.specs.declared.BegunRun.{BegunRun}
+use Rattle.campaign.specs.declared.endings.CloseRefusal.{CloseRefusal}
+use Rattle.campaign.specs.declared.endings.VoidRefusal.{VoidRefusal}
 use Rattle.campaign.specs.declared.refusals.BeginRefusal.{BeginRefusal}
-use Rattle.campaign.specs.declared.refusals.CloseRefusal.{CloseRefusal}
-use Rattle.campaign.specs.declared.refusals.VoidRefusal.{VoidRefusal}
 use Rattle.terms.specs.Levels.{at_level}
 use Rattle.terms.specs.declared.levels.Level.{Level}
 use Rattle.terms.specs.declared.pairs.Pair.{Pair}

@@ -1,9 +1,9 @@
 -- The number by which each refusal of a call on a log is told.
 use Rattle.std.specs.Prelude.{ℕ}
-use Rattle.campaign.specs.declared.refusals.BeginRefusal.{BeginRefusal}
+use Rattle.campaign.specs.declared.endings.CloseFault.TheVariants.{NotCurrent, Reference, Predicted}
+use Rattle.campaign.specs.declared.endings.CloseFault.{CloseFault}
 use Rattle.campaign.specs.declared.refusals.BeginRefusal.TheVariants.{RunBegun, NoNumber, LevelFull}
-use Rattle.campaign.specs.declared.refusals.CloseFault.{CloseFault}
-use Rattle.campaign.specs.declared.refusals.CloseFault.TheVariants.{NotCurrent, Reference, Predicted}
+use Rattle.campaign.specs.declared.refusals.BeginRefusal.{BeginRefusal}
 
 abbrev pub begin_number : BeginRefusal → ℕ
 begin_number RunBegun = 20

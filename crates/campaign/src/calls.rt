@@ -5,7 +5,8 @@ ghost use Rattle.campaign.specs.Answers.{BeginAnswer, CloseAnswer, VoidAnswer};
 ghost use Rattle.campaign.specs.View.{view};
 ghost use Rattle.campaign.specs.declared.replaying.Call.TheVariants.{Begin, Close, Void};
 
-use crate::refusals::{BeginRefusal, CloseFault, CloseRefusal, VoidRefusal};
+use crate::endings::{CloseFault, CloseRefusal, VoidRefusal};
+use crate::refusals::BeginRefusal;
 use crate::{BegunRun, Log, RunId};
 use runs::ClosedRuns;
 use terms::{Head, Level, Levels, Pair};

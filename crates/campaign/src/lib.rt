@@ -12,11 +12,13 @@ use terms::{Head, Level, Levels};
 
 mod calls;
 mod current;
+mod endings;
 mod reading;
 mod refusals;
 mod replaying;
 
-pub use refusals::{BeginRefusal, CloseFault, CloseRefusal, VoidRefusal};
+pub use endings::{CloseFault, CloseRefusal, VoidRefusal};
+pub use refusals::BeginRefusal;
 pub use replaying::{Call, Replayed, replay};
 
 // The campaign's serial, the run's level, and its number in the campaign, from 1.

@@ -1,8 +1,6 @@
-// Why a call on a log is refused, and what is handed back.
+// Why begin is refused.
 ghost use Rattle.std.specs.Prelude.{◌≡◌};
-ghost use Rattle.campaign.specs.Refusals.{begin_number, close_number, void_number};
-
-use crate::BegunRun;
+ghost use Rattle.campaign.specs.Refusals.{begin_number};
 
 // Why no run is begun.
 #[derive(Clone, Copy, PartialEq, Eq, Debug)]
@@ -15,41 +13,10 @@ pub enum BeginRefusal {
     LevelFull = 21,
 }
 
-// Why a run is not closed.
-#[derive(Clone, Copy, PartialEq, Eq, Debug)]
-pub enum CloseFault {
-    // It is not the run now begun.
-    NotCurrent = 23,
-    // The reference reading is over the top.
-    Reference = 24,
-    // The predicted reading is over the top.
-    Predicted = 25,
-}
-
-// The run that is not closed, handed back, and why.
-pub struct CloseRefusal {
-    pub run: BegunRun,
-    pub fault: CloseFault,
-}
-
-// The run that is not voided, handed back: it is not the run now begun.
-pub struct VoidRefusal {
-    pub run: BegunRun,
-}
-
 impl BeginRefusal {
     // The number by which the refusal is told.
     pub fn number(self) -> u32
         ensures { result ≡ begin_number self }
-    {
-        self as u32
-    }
-}
-
-impl CloseFault {
-    // The number by which the refusal is told.
-    pub fn number(self) -> u32
-        ensures { result ≡ close_number self }
     {
         self as u32
     }

@@ -5,7 +5,7 @@ ghost use Rattle.campaign.specs.Replaying.{HandedBack, end_call, held_id};
 ghost use Rattle.campaign.specs.View.{view};
 ghost use Rattle.campaign.specs.declared.replaying.Call.TheVariants.{Begin};
 
-use crate::refusals::{CloseRefusal, VoidRefusal};
+use crate::endings::{CloseRefusal, VoidRefusal};
 use crate::{BegunRun, Log, RunId};
 use terms::{Head, Level, Pair};
 
