@@ -45,7 +45,8 @@ pub(crate) fn limit(kind: Kind, tally: &Tally) -> u64
     }
 }
 
-// What the limit is of: the references, or the emission standard where they are below half of it.
+// What the limit is of: the references, or the emission standard where they are below half of it. Head and tally come apart as in
+// the question above.
 pub(crate) fn reference(head: &Head, tally: &Tally) -> u64
     ensures value { result ≡ reference_of head.now.emission tally.now.sums }
     ensures top { result ≤ 600000 }

@@ -8,7 +8,8 @@ use crate::limits::{Marks, limit, reference};
 use tally::Tally;
 use terms::Head;
 
-// Whether a pollutant's predictions are accurate, under a head's emission standard.
+// Whether a pollutant's predictions are accurate, under a head's emission standard. Head and tally come apart here and below: a
+// layer keeps its head, and each question brings its tally.
 pub fn pollutant(head: &Head, tally: &Tally) -> bool
     ensures value { result ≡ pollutant_accurate head.now.kind head.now.emission tally.now.sums }
     ensures words { (result ≡ true) ↔ Accurate head.now.kind head.now.emission tally.now.sums }

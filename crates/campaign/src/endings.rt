@@ -27,7 +27,7 @@ pub struct VoidRefusal {
 }
 
 impl CloseFault {
-    // The number by which the refusal is told.
+    // The number by which the refusal is told, which its case carries: a trait for three such enums would say more than they do.
     pub fn number(self) -> u32
         ensures { result ≡ close_number self }
     {

@@ -14,7 +14,7 @@ pub enum BeginRefusal {
 }
 
 impl BeginRefusal {
-    // The number by which the refusal is told.
+    // The number by which the refusal is told, which its case carries: a trait for three such enums would say more than they do.
     pub fn number(self) -> u32
         ensures { result ≡ begin_number self }
     {

@@ -32,7 +32,8 @@ struct Following {
     ghost held: { held_id run ≡ (view log).current },
 }
 
-// Makes an empty campaign and gives it the calls one after another, refused ones included.
+// Makes an empty campaign and gives it the calls one after another, refused ones included. Head and serial come apart, since the
+// log is the struct that holds them.
 pub fn replay(head: Head, serial: u16, calls: &[Call]) -> Replayed
     ensures account { view result.log ≡ account head serial calls.now }
     ensures run { held_id result.run ≡ (view result.log).current }

@@ -17,7 +17,8 @@ pub struct Judged {
     pub verdict: Verdict,
 }
 
-// Makes an empty campaign, gives it the calls one after another, refused ones included, and judges what they leave.
+// Makes an empty campaign, gives it the calls one after another, refused ones included, and judges what they leave. Head and
+// serial come apart, since the log is the struct that holds them.
 pub fn replay_and_judge<S: Standard>(
     standard: &S,
     head: Head,

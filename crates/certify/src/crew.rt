@@ -15,6 +15,7 @@ pub struct Crew {
 }
 
 impl Crew {
+    // Head and serial come apart, since the log is the struct that holds them.
     pub fn new(head: Head, serial: u16) -> Crew
         ensures { view result.log ≡ start head serial }
     {
@@ -25,7 +26,7 @@ impl Crew {
         }
     }
 
-    // Takes a run at a level from beginning to end.
+    // Takes a run at a level from beginning to end. Level and pair part at once: begin wants the one, and close the other.
     pub fn measure(&mut self, level: Level, pair: Pair) -> Result<(), BeginRefusal>
         ensures { view self.new.log ≡ measured (view self.old.log) level pair }
     {
@@ -59,7 +60,8 @@ impl Crew {
         Ok(())
     }
 
-    // Closes the run now begun, or voids it where its readings are refused.
+    // Closes the run now begun, or voids it where its readings are refused. A type that kept that it is the one begun would have to
+    // hold the log for as long.
     fn close(&mut self, run: BegunRun, pair: Pair)
         requires { (view self.old.log).current ≡ Some run.id }
         ensures { view self.new.log ≡ finished (view self.old.log) run.id pair }
@@ -70,7 +72,7 @@ impl Crew {
         }
     }
 
-    // Voids the run now begun.
+    // Voids the run now begun, of which the same is true.
     fn void(&mut self, run: BegunRun)
         requires { (view self.old.log).current ≡ Some run.id }
         ensures { view self.new.log ≡ ended (view self.old.log) }

@@ -12,8 +12,8 @@ mod keeping;
 pub type Selection = Levels<u32>;
 
 // At most twelve runs, in closing order, with no reading over 50,000, which is the top of any kind.
-// What lies beyond the first `count` pairs means nothing. An array and a count need no memory of their own, and the type is
-// `Copy`, which an `ArrayVec` is not. It has no model, for the reason that a log has none.
+// What lies beyond the first `count` pairs means nothing. The type is `Copy`, which it would not be with an `ArrayVec`.
+// It has no model, for the reason that a log has none.
 #[derive(Clone, Copy)]
 pub struct ClosedRuns {
     runs: [Pair; 12],

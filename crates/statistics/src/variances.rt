@@ -10,7 +10,7 @@ use terms::{Head, Kind};
 const CRITICAL: [u64; 4] = [3438, 3197, 2978, 2817];
 
 // Whether the variance of the predictions is at most the critical F times that of the references, or times the square of
-// the floor. Fewer than nine runs do not pass.
+// the floor. Fewer than nine runs do not pass. Head and tally come apart: a layer keeps its head, and each question brings its tally.
 pub fn is_steady(head: &Head, tally: &Tally) -> bool
     ensures value { result ≡ is_steady head.now.kind head.now.span tally.now.sums }
     ensures words { (result ≡ true) ↔ Steady head.now.kind head.now.span tally.now.sums }

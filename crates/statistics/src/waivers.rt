@@ -6,7 +6,7 @@ use tally::Tally;
 use terms::{Head, Kind};
 
 // Whether the mean reference is below 10 ppm or 5 percent of the emission standard, or for a diluent below 3 percent of the
-// span.
+// span. Head and tally come apart: a layer keeps its head, and each question brings its tally.
 pub fn is_waived(head: &Head, tally: &Tally) -> bool
     ensures { result ≡ is_waived head.now.kind head.now.emission head.now.span tally.now.sums }
 {

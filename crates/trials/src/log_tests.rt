@@ -22,7 +22,7 @@ pub(crate) fn measure(log: &mut Log, level: Level, pair: Pair) -> Option<u32> {
     }
 }
 
-// Voids the run now begun.
+// Voids the run now begun. A type that kept that it is the one begun would have to hold the log for as long.
 pub(crate) fn void(log: &mut Log, run: BegunRun)
     requires { (view log.old).current ≡ Some run.id }
 {

@@ -25,7 +25,7 @@ impl Tally {
             return Err(PairRefusal::Full);
         }
         let mut tally = Tally::none();
-        // A loop over the elements, which is how a tally is worked out.
+        // One loop over the slice: six sums by iterators would go through it six times.
         for pair in pairs {
             tally.add(pair)?;
         }
@@ -37,6 +37,7 @@ impl Tally {
         ensures { AddAnswer self.old pair.now self.new result }
     {
         let sums = self.sums;
+        // A length has no `From` of a `u64`.
         pair.admit(sums.n as usize)?;
         let r = u64::from(pair.reference);
         let p = u64::from(pair.predicted);

@@ -25,7 +25,7 @@ impl Head {
 }
 
 impl HeadRefusal {
-    // The number by which the refusal is told.
+    // The number by which the refusal is told, which its case carries: a trait for three such enums would say more than they do.
     pub fn number(self) -> u32
         ensures { result ≡ head_number self }
     {
