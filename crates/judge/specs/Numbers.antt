@@ -1,9 +1,10 @@
 -- The number by which each verdict is told, and the level that it names.
-use Rattle.std.specs.Prelude.{ℕ, Some, None, Option}
+use Rattle.std.specs.Prelude.{ℕ, List, ◌++◌, Some, None, Option, codes, decimal}
 use Rattle.judge.specs.declared.verdicts.Cause.{Cause}
 use Rattle.judge.specs.declared.verdicts.Cause.TheVariants.{Accuracy, Statistics, TooMany, Together}
 use Rattle.judge.specs.declared.verdicts.Verdict.{Verdict}
 use Rattle.judge.specs.declared.verdicts.Verdict.TheVariants.{Short, Certified, Denied}
+use Rattle.terms.specs.Texts.{level_name}
 use Rattle.terms.specs.declared.levels.Level.{Level}
 
 abbrev pub cause_number : Cause → ℕ
@@ -17,6 +18,14 @@ cause_level (Accuracy at) = Some at
 cause_level (Statistics at) = Some at
 cause_level TooMany = None
 cause_level Together = None
+
+-- how a cause is written: its number, and behind a space the level that it names
+abbrev pub with_level : List ℕ → Option Level → List ℕ
+with_level text None = text
+with_level text (Some at) = text ++ codes " " ++ level_name at
+
+abbrev pub cause_text : Cause → List ℕ
+cause_text cause = with_level (decimal (cause_number cause)) (cause_level cause)
 
 -- A certificate has no number.
 abbrev pub verdict_number : Verdict → Option ℕ

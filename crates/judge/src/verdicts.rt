@@ -1,8 +1,9 @@
 // What the judge answers.
-ghost use Rattle.std.specs.Prelude.{◌≡◌};
-ghost use Rattle.judge.specs.Numbers.{cause_level, cause_number, verdict_level, verdict_number};
+ghost use Rattle.std.specs.Prelude.{◌≡◌, Some};
+ghost use Rattle.judge.specs.Numbers.{cause_level, cause_number, cause_text, verdict_level, verdict_number};
 
 use runs::Selection;
+use std::fmt;
 use terms::Level;
 
 // Why no allowed selection meets a standard.
@@ -47,6 +48,18 @@ impl Cause {
         match self {
             Cause::Accuracy(level) | Cause::Statistics(level) => Some(level),
             Cause::TooMany | Cause::Together => None,
+        }
+    }
+}
+
+// A cause is written by its number and the level that it names.
+impl fmt::Display for Cause {
+    ghost output = { λ cause. Some (cause_text cause) };
+
+    fn fmt<W: fmt::Write>(&self, f: &mut fmt::Formatter<W>) -> fmt::Result {
+        match self.level() {
+            Some(level) => write!(f, "{} {level}", self.number()),
+            None => write!(f, "{}", self.number()),
         }
     }
 }

@@ -7,7 +7,8 @@ use campaign::{Call, Log, Replayed, RunId};
 use certification::{Judged, judge_by, judge_by_ps16, replay_and_judge};
 use judge::{Cause, Verdict};
 use runs::Selection;
-use standard::{Limits, Standard};
+use standard::{Limits, Ps16, Standard};
+use std::alloc::{AllocError, Global};
 use std::process::Abort;
 use std::test::Fail;
 use tally::Tally;
@@ -240,6 +241,67 @@ fn met_by_all_or_none(rt: HostRuntime) -> Result<(), Fail> {
     );
     assert_eq!(rt;
         judge_by(&Always { answer: false }, &log),
+        Verdict::Denied(Cause::Accuracy(Level::Low))
+    );
+    Ok(())
+}
+
+// Nine runs at each level, all of one pair.
+fn nine_a_level(alloc: Global, pair: Pair) -> Result<Vec<Call>, AllocError> {
+    let mut calls = Vec::new(alloc);
+    let mut number = 0u8;
+    for level in Level::ALL {
+        for _ in 0..9 {
+            number = number.wrapping_add(1);
+            let run = RunId {
+                serial: 7,
+                level,
+                number,
+            };
+            calls.push(Call::Begin(level))?;
+            calls.push(Call::Close { run, pair })?;
+        }
+    }
+    Ok(calls)
+}
+
+fn verdict_on<S: Standard>(standard: &S, head: Head, calls: &[Call]) -> Verdict {
+    let Judged { replayed, verdict } = replay_and_judge(standard, head, 7, calls);
+    let Replayed { mut log, run } = replayed;
+    if let Some(run) = run {
+        void(&mut log, run);
+    }
+    verdict
+}
+
+// Without a spread there is no correlation, so compliance is denied.
+#[test]
+fn lists_of_calls_under_every_standard(rt: HostRuntime) -> Result<(), Fail> {
+    let calls = nine_a_level(rt.alloc(), RIGHT)?;
+    let calls = calls.as_slice();
+    for (kind, emission) in [(Kind::Ppm, 1), (Kind::Heat, 1), (Kind::Diluent, 0)] {
+        for usage in [Use::Excess, Use::Compliance] {
+            let head = Head::new(kind, usage, emission, 1)?;
+            let verdict = match Ps16::of(head) {
+                Ps16::Excess(s) => verdict_on(&s, head, calls),
+                Ps16::ExcessDiluent(s) => verdict_on(&s, head, calls),
+                Ps16::Compliance(s) => verdict_on(&s, head, calls),
+                Ps16::ComplianceDiluent(s) => verdict_on(&s, head, calls),
+            };
+            let expected = match usage {
+                Use::Excess => certified(0, 0, 0, 0),
+                Use::Compliance => Verdict::Denied(Cause::Together),
+            };
+            assert_eq!(rt; verdict, expected);
+        }
+    }
+    let head = ppm(Use::Excess)?;
+    assert_eq!(rt;
+        verdict_on(&Always { answer: true }, head, calls),
+        certified(0, 0, 0, 0)
+    );
+    assert_eq!(rt;
+        verdict_on(&Always { answer: false }, head, calls),
         Verdict::Denied(Cause::Accuracy(Level::Low))
     );
     Ok(())

@@ -214,3 +214,26 @@ fn lists_of_calls(rt: HostRuntime) -> Result<(), Fail> {
     assert_eq!(rt; low[0].reference, 2000);
     Ok(())
 }
+
+// A void that names another serial, level or number leaves the run begun.
+#[test]
+fn void_of_another_run(rt: HostRuntime) -> Result<(), Fail> {
+    for other in [
+        named(8, Level::Low, 1),
+        named(7, Level::Mid, 1),
+        named(7, Level::Low, 2),
+    ] {
+        let calls = [Call::Begin(Level::Low), Call::Void(other)];
+        let Replayed { mut log, run } = replay(ppm(Use::Excess)?, 7, &calls);
+        let still_begun = match run {
+            None => None,
+            Some(run) => {
+                let id = run.id();
+                void(&mut log, run);
+                Some(id)
+            }
+        };
+        assert_eq!(rt; still_begun, Some(named(7, Level::Low, 1)));
+    }
+    Ok(())
+}

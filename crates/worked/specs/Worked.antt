@@ -1,5 +1,5 @@
 -- Worked pairs, for kind ppm, an emission standard of 2000 and a span of 5000.
-use Rattle.std.specs.Prelude.{Bool, List, ◌++◌, ◌≡◌, ℕ, replicate}
+use Rattle.std.specs.Prelude.{◌≡◌, ℕ, Bool, true, false, List, ◌++◌, replicate}
 use Rattle.accuracy.specs.Accuracy.{pollutant_accurate}
 use Rattle.statistics.specs.Correlation.{is_correlated}
 use Rattle.statistics.specs.Variance.{is_steady}
@@ -42,3 +42,14 @@ pub record Worked (w : WorkedPairs) : Type 0 where
       (of 1 100 100 ++ of 1 200 300 ++ of 1 300 200 ++ of 1 400 400)
       (of 1 100 100 ++ of 1 200 300 ++ of 1 300 200 ++ of 1 400 399)
       w.correlation
+
+-- The answer is yes at the edge, and no just beyond it.
+abbrev pub IsEdge : Edge → Type 0
+IsEdge e = (e.at ≡ true) × (e.beyond ≡ false)
+
+pub record Edges (w : WorkedPairs) : Type 0 where
+  pub tenth : IsEdge w.tenth
+  pub fifth : IsEdge w.fifth
+  pub scatter : IsEdge w.scatter
+  pub variance : IsEdge w.variance
+  pub correlation : IsEdge w.correlation

@@ -1,7 +1,7 @@
 // Worked pairs: what the rules answer where the answer was worked out by hand, as one proved result.
 #![tactic(auto)]
 
-ghost use Rattle.worked.specs.Worked.{Worked};
+ghost use Rattle.worked.specs.Worked.{Edges, Worked};
 
 // The answer at an edge, and the answer just beyond it.
 #[derive(Clone, Copy, PartialEq, Eq, Debug)]
@@ -33,7 +33,8 @@ const EDGE: Edge = Edge {
 
 // What the rules answer on each of the worked pairs.
 pub fn worked_pairs() -> WorkedPairs
-    ensures { Worked result }
+    ensures answers { Worked result }
+    ensures edges { Edges result }
 {
     WorkedPairs {
         tenth: EDGE,
