@@ -12,32 +12,9 @@ fn by_products(x: u64, y: u64, z: u64) -> bool {
     x > 0 && y > 0 && z > 0 && 16 * (x as u128) * (y as u128) <= 25 * (z as u128) * (z as u128)
 }
 
-#[derive(Clone, Copy, Default)]
-struct Sums {
-    n: u64,
-    r: u64,
-    p: u64,
-    rr: u64,
-    pp: u64,
-    rp: u64,
-}
+type Number = u64;
 
-impl Sums {
-    fn plus(self, o: Sums) -> Sums {
-        Sums {
-            n: self.n + o.n,
-            r: self.r + o.r,
-            p: self.p + o.p,
-            rr: self.rr + o.rr,
-            pp: self.pp + o.pp,
-            rp: self.rp + o.rp,
-        }
-    }
-
-    fn of(r: u64, p: u64) -> Sums {
-        Sums { n: 1, r, p, rr: r * r, pp: p * p, rp: r * p }
-    }
-}
+include!("sums.rs");
 
 // The sums of the runs that each set of at most three struck positions leaves: 299 sets.
 fn level(mean: u64, seed: &mut u64) -> Vec<Sums> {
@@ -53,7 +30,7 @@ fn level(mean: u64, seed: &mut u64) -> Vec<Sums> {
         .map(|set| {
             (0..12)
                 .filter(|k| set >> k & 1 == 0)
-                .fold(Sums::default(), |a, k| a.plus(runs[k]))
+                .fold(Sums::default(), |a, k| a.plus(&runs[k]))
         })
         .collect()
 }
@@ -66,9 +43,9 @@ fn time(name: &str, levels: &[Vec<Sums>; 3], question: impl Fn(u64, u64, u64) ->
         let start = Instant::now();
         for high in &levels[2] {
             for mid in &levels[1] {
-                let above = mid.plus(*high);
+                let above = mid.plus(high);
                 for low in &levels[0] {
-                    let s = low.plus(above);
+                    let s = low.plus(&above);
                     let x = s.n * s.rr - s.r * s.r;
                     let y = s.n * s.pp - s.p * s.p;
                     let z = (s.n * s.rp).saturating_sub(s.r * s.p);

@@ -3,32 +3,9 @@ use std::hint::black_box;
 use std::process::Command;
 use std::time::{Duration, Instant};
 
-#[derive(Clone, Copy, Default)]
-struct Sums {
-    n: i64,
-    r: i64,
-    p: i64,
-    rr: i64,
-    pp: i64,
-    rp: i64,
-}
+type Number = i64;
 
-impl Sums {
-    fn of(r: i64, p: i64) -> Sums {
-        Sums { n: 1, r, p, rr: r * r, pp: p * p, rp: r * p }
-    }
-
-    fn plus(&self, o: &Sums) -> Sums {
-        Sums {
-            n: self.n + o.n,
-            r: self.r + o.r,
-            p: self.p + o.p,
-            rr: self.rr + o.rr,
-            pp: self.pp + o.pp,
-            rp: self.rp + o.rp,
-        }
-    }
-}
+include!("sums.rs");
 
 struct Head {
     emission: i64,

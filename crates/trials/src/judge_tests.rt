@@ -1,7 +1,7 @@
 // Verdicts on small campaigns: certificates, every cause of a denial, and standards of our own.
 ghost use Rattle.std.proofs.Common.{rules};
 
-use crate::log_tests::{measure, void};
+use crate::log_tests::{end, measure};
 use crate::test_makings::ppm;
 use campaign::{Call, Log, Replayed, RunId};
 use certification::{Judged, judge_by, judge_by_ps16, replay_and_judge};
@@ -268,9 +268,7 @@ fn nine_a_level(alloc: Global, pair: Pair) -> Result<Vec<Call>, AllocError> {
 fn verdict_on<S: Standard>(standard: &S, head: Head, calls: &[Call]) -> Verdict {
     let Judged { replayed, verdict } = replay_and_judge(standard, head, 7, calls);
     let Replayed { mut log, run } = replayed;
-    if let Some(run) = run {
-        void(&mut log, run);
-    }
+    end(&mut log, run);
     verdict
 }
 
@@ -324,16 +322,7 @@ fn a_list_of_calls(rt: HostRuntime) -> Result<(), Fail> {
         Call::Void(run),
         Call::Judge,
     ];
-    let Judged { replayed, verdict } = replay_and_judge(
-        &Always { answer: true },
-        ppm(Use::Excess)?,
-        7,
-        &calls,
-    );
-    let Replayed { mut log, run } = replayed;
-    if let Some(run) = run {
-        void(&mut log, run);
-    }
+    let verdict = verdict_on(&Always { answer: true }, ppm(Use::Excess)?, &calls);
     assert_eq!(rt; verdict, Verdict::Short(Level::Low));
     Ok(())
 }

@@ -1,5 +1,6 @@
 // Logs at the edges of what they take: every refusal of begin, close and void.
 ghost use Rattle.std.specs.Prelude.{◌≡◌, true, is_some, Some, None};
+ghost use Rattle.campaign.specs.Replaying.{held_id};
 ghost use Rattle.campaign.specs.View.{view};
 
 use crate::test_makings::ppm;
@@ -27,6 +28,20 @@ pub(crate) fn void(log: &mut Log, run: BegunRun)
     requires { (view log.old).current ≡ Some run.id }
 {
     log.void(run).unwrap();
+}
+
+// Voids the run that is still begun, if any, and tells which it was.
+pub(crate) fn end(log: &mut Log, run: Option<BegunRun>) -> Option<RunId>
+    requires { held_id run ≡ (view log.old).current }
+{
+    match run {
+        None => None,
+        Some(run) => {
+            let id = run.id();
+            void(log, run);
+            Some(id)
+        }
+    }
 }
 
 #[test]
@@ -198,14 +213,7 @@ fn lists_of_calls(rt: HostRuntime) -> Result<(), Fail> {
         Call::Begin(Level::High),
     ];
     let Replayed { mut log, run } = replay(ppm(Use::Excess)?, 7, &calls);
-    let still_begun = match run {
-        None => None,
-        Some(run) => {
-            let id = run.id();
-            void(&mut log, run);
-            Some(id)
-        }
-    };
+    let still_begun = end(&mut log, run);
     assert_eq!(rt; still_begun, Some(named(7, Level::High, 3)));
     assert_eq!(rt; log.begun(), 3);
     assert_eq!(rt; log.closed(Level::Mid).len(), 0);
@@ -225,14 +233,7 @@ fn void_of_another_run(rt: HostRuntime) -> Result<(), Fail> {
     ] {
         let calls = [Call::Begin(Level::Low), Call::Void(other)];
         let Replayed { mut log, run } = replay(ppm(Use::Excess)?, 7, &calls);
-        let still_begun = match run {
-            None => None,
-            Some(run) => {
-                let id = run.id();
-                void(&mut log, run);
-                Some(id)
-            }
-        };
+        let still_begun = end(&mut log, run);
         assert_eq!(rt; still_begun, Some(named(7, Level::Low, 1)));
     }
     Ok(())
