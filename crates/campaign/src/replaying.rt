@@ -7,6 +7,7 @@ ghost use Rattle.campaign.specs.declared.replaying.Call.TheVariants.{Begin};
 
 use crate::endings::{CloseRefusal, VoidRefusal};
 use crate::{BegunRun, Log, RunId};
+use std::mem;
 use terms::{Head, Level, Pair};
 
 // A call on a log, by its arguments. A run is named by what identifies it, so that a list of calls may name a run of
@@ -43,7 +44,7 @@ pub fn replay(head: Head, serial: u16, calls: &[Call]) -> Replayed
         run: None,
     };
     for call in calls {
-        following = following.follow(*call);
+        following.follow(*call);
     }
     let Following { log, run } = following;
     Replayed { log, run }
@@ -51,47 +52,50 @@ pub fn replay(head: Head, serial: u16, calls: &[Call]) -> Replayed
 
 // The run that is begun and not ended is held beside the log from call to call: a call that names it is given that run
 // itself. Where a call names another, a run is made to that description, for this call alone, and it is proved to be
-// refused. It is made and taken apart in `refuse`, and nowhere else.
+// refused. It is made and taken apart in `refuse`, and nowhere else. The log is lent, and not moved in and out by each call.
 impl Following {
-    fn follow(self, call: Call) -> Following
-        ensures { view result.log ≡ step (view self.log) call }
+    fn follow(&mut self, call: Call)
+        ensures { view self.new.log ≡ step (view self.old.log) call }
     {
         match call {
             Call::Begin(level) => self.begin(level),
             Call::Close { run, pair } => self.end(run, Some(pair)),
             Call::Void(run) => self.end(run, None),
-            Call::Judge => self,
+            Call::Judge => {}
         }
     }
 
-    fn begin(self, level: Level) -> Following
-        ensures { view result.log ≡ step (view self.log) (Begin level) }
+    fn begin(&mut self, level: Level)
+        ensures { view self.new.log ≡ step (view self.old.log) (Begin level) }
     {
-        let Following { mut log, run: held } = self;
-        let run = match log.begin(level) {
-            Err(_) => held,
-            Ok(run) => match held {
-                None => Some(run),
-                // A begun run cannot be let go, so this is a match and no `unwrap`.
-                Some(_) => unreachable(),
-            },
-        };
-        Following { log, run }
+        if let Ok(run) = self.log.begin(level) {
+            put(&mut self.run, Some(run));
+        }
     }
 
     // Ends the run that is named: closes it with the pair, or voids it where there is none.
-    fn end(self, named: RunId, pair: Option<Pair>) -> Following
-        ensures { view result.log ≡ step (view self.log) (end_call named pair) }
+    fn end(&mut self, named: RunId, pair: Option<Pair>)
+        ensures { view self.new.log ≡ step (view self.old.log) (end_call named pair) }
     {
-        let Following { mut log, run: held } = self;
-        let run = match held {
-            Some(run) if run.id == named => log.end(run, pair),
+        let left = match self.run.take() {
+            Some(run) if run.id == named => self.log.end(run, pair),
             held => {
-                log.refuse(named, pair);
+                self.log.refuse(named, pair);
                 held
             }
         };
-        Following { log, run }
+        put(&mut self.run, left);
+    }
+}
+
+// Puts a run, if any, where none is held. A begun run cannot be let go, so this is a match and no assignment.
+fn put(place: &mut Option<BegunRun>, run: Option<BegunRun>)
+    requires { place.old ≡ None }
+    ensures { place.new ≡ run }
+{
+    match mem::replace(place, run) {
+        None => {}
+        Some(_) => unreachable(),
     }
 }
 

@@ -1,6 +1,7 @@
 pub mod Alike
 pub mod Blame
 pub mod Counting
+pub mod Filling
 pub mod Found
 pub mod Groups
 pub mod Growing

@@ -61,8 +61,8 @@ passes_at p (x ∷ xs) d zero h e = rw e (omega arith)
 passes_at p (x ∷ xs) d (suc k) h e =
     cond_both (not (p x)) (1 + position_or_len p xs) 0 (λ n. n < suc (length xs)) (λ _. omega (arith, passes_at p xs d k (omega arith) e)) (λ _. omega arith)
 
-position-None : (p : Shortlist → Bool) (lists : List Shortlist) (d : Shortlist) → position p lists ≡ None → (k : ℕ) → k < length lists → p (get_or lists k d) ≡ false
-position-None p lists d is k h =
+position_none : (p : Shortlist → Bool) (lists : List Shortlist) (d : Shortlist) → position p lists ≡ None → (k : ℕ) → k < length lists → p (get_or lists k d) ≡ false
+position_none p lists d is k h =
     false_from_ne_true (p (get_or lists k d))
     (λ e. none-some _ (sym is ∙ cond-true (ltb (position_or_len p lists) (length lists)) (Some (position_or_len p lists)) None (lt-ltb _ _ (passes_at p lists d k h e))))
 
@@ -158,7 +158,7 @@ module _ (m : Meaning) (lawful : Lawful m) (at : Level) (runs : List Pair) where
         wants (list_any has_accurate lows.groups)
         (λ set fits passes.
         let few = three set fits in
-        none_in (ones set) few no_list (position-None has_any lows.groups no_list is (ones set) (omega (arith, few, lows.four))) set refl fits passes)
+        none_in (ones set) few no_list (position_none has_any lows.groups no_list is (ones set) (omega (arith, few, lows.four))) set refl fits passes)
         (λ e.
         let any = Any-from_list_any has_accurate lows.groups e in
         let h : any.0 ≤ 3 = omega (arith, any.2, lows.four) in

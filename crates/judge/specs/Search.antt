@@ -19,6 +19,10 @@ group lows n = slice_index_or (map listed lows.groups) n []
 abbrev pub accurate_in : ByCount → ℕ → Bool
 accurate_in lows n = slice_index_or (map (λ (list : Shortlist). list.accurate) lows.groups) n false
 
+-- No group has begun.
+abbrev pub AllEmpty : ByCount → Type 0
+AllEmpty lows = (n : ℕ) → n ≤ 3 → (group lows n ≡ []) × (accurate_in lows n ≡ false)
+
 -- Each group is whole.
 abbrev pub Groups : Meaning → Level → List Pair → ByCount → Type 0
 Groups m at runs lows = (n : ℕ) → n ≤ 3 → Upto m at runs n n (2 ^ length runs) (group lows n) (accurate_in lows n)

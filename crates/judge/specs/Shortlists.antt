@@ -1,5 +1,5 @@
 -- The sets of a level that fit and get both yeses, and how far a list of them has come.
-use Rattle.std.specs.Prelude.{◌≡◌, ℕ, zero, suc, ◌+◌, ◌^◌, ◌<◌, ◌≤◌, Bool, true, false, cond, List, length, count_ones, nat_le, slice_index_or}
+use Rattle.std.specs.Prelude.{◌≡◌, ℕ, zero, suc, ◌+◌, ◌^◌, ◌<◌, ◌≤◌, Bool, true, false, cond, List, [], length, count_ones, nat_le, slice_index_or}
 use Rattle.std.specs.Int.Count.{ones_in}
 use Rattle.judge.specs.Sets.{Accurate, Fits, Passes}
 use Rattle.judge.specs.declared.shortlists.Entry.{Entry}
@@ -46,6 +46,10 @@ pub record Upto (m : Meaning) (at : Level) (runs : List Pair) (from to n : ℕ) 
   pub complete : (set : ℕ) → set < n → Between from to set → Fits m runs set → Passes m at runs set → (k : ℕ) × (k < length items) × ((item items k).set ≡ set)
   pub some : accurate ≡ true → (set : ℕ) × Fits m runs set × Accurate m at runs set
   pub none : accurate ≡ false → (set : ℕ) → set < n → Between from to set → Fits m runs set → Accurate m at runs set → ⊥
+
+-- a shortlist that has not begun
+abbrev pub IsEmpty : Shortlist → Type 0
+IsEmpty list = (listed list ≡ []) × (list.accurate ≡ false)
 
 -- a shortlist that has come so far
 abbrev pub Gathered : Meaning → Level → List Pair → ℕ → ℕ → ℕ → Shortlist → Type 0

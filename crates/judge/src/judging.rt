@@ -26,7 +26,8 @@ fn weigh<S: Standard>(standard: &S, closed: &Levels<ClosedRuns>) -> Verdict
     if let Some(level) = short(standard.limits().least_kept, closed) {
         return Verdict::Short(level);
     }
-    let search = Search::new(standard, closed);
+    let mut search = Search::new(standard);
+    search.gather(closed);
     match search.fewest() {
         Some((selection, struck)) => Verdict::Certified(selection, struck),
         None => Verdict::Denied(search.cause()),

@@ -2,7 +2,7 @@
 ghost use Rattle.std.specs.Prelude.{◌≡◌, ◌+◌, ◌^◌, ◌<◌, false, length, MatchBool};
 ghost use Rattle.std.specs.Range.{range_inclusive_start, range_inclusive_end, range_inclusive_exhausted};
 ghost use Rattle.judge.specs.Sets.{Fits};
-ghost use Rattle.judge.specs.Shortlists.{Between, Gathered, Whole, listed};
+ghost use Rattle.judge.specs.Shortlists.{Between, Gathered, IsEmpty, Whole, listed};
 ghost use Rattle.runs.specs.Closed.{pairs_of};
 
 use crate::shortlists::{Entry, Shortlist};
@@ -24,18 +24,15 @@ pub(crate) struct Candidates<'a, S> {
 }
 
 impl<S: Standard> Candidates<'_, S> {
-    // All sets that fit, get both yeses, and strike so many.
-    pub(crate) fn shortlist(&self) -> Shortlist
-        ensures { Whole (S.meaning self.now.standard.now) self.now.level (pairs_of self.now.runs.now) (range_inclusive_start self.now.strikes) (range_inclusive_end self.now.strikes) result }
+    // Puts into an empty list all sets that fit, get both yeses, and strike so many. The list is lent: one that is given back by
+    // value would be copied to its place, with stack for both.
+    pub(crate) fn gather(&self, list: &mut Shortlist)
+        requires { IsEmpty list.old }
+        ensures { Whole (S.meaning self.now.standard.now) self.now.level (pairs_of self.now.runs.now) (range_inclusive_start self.now.strikes) (range_inclusive_end self.now.strikes) list.new }
     {
-        let mut list = Shortlist {
-            entries: ArrayVec::new(),
-            accurate: false,
-        };
         for set in 0..(1u32 << self.runs.len()) {
-            self.consider(set, &mut list);
+            self.consider(set, list);
         }
-        list
     }
 
     // Whether a set strikes so many, and fits.
@@ -44,9 +41,12 @@ impl<S: Standard> Candidates<'_, S> {
         ensures { MatchBool result (Between (range_inclusive_start self.now.strikes) (range_inclusive_end self.now.strikes) set × Fits (S.meaning self.now.standard.now) (pairs_of self.now.runs.now) set) (Between (range_inclusive_start self.now.strikes) (range_inclusive_end self.now.strikes) set → Fits (S.meaning self.now.standard.now) (pairs_of self.now.runs.now) set → ⊥) }
     {
         let struck = set.count_ones();
+        // The standard is asked only of the few sets that strike so many.
+        if !self.strikes.contains(&struck) {
+            return false;
+        }
         let limits = self.standard.limits();
-        self.strikes.contains(&struck)
-            && struck <= limits.most_struck
+        struck <= limits.most_struck
             // A length has no `From` of a `u32`.
             && (limits.least_kept + struck) as usize <= self.runs.len()
     }
@@ -91,6 +91,16 @@ impl<S: Standard> Candidates<'_, S> {
 }
 
 impl Shortlist {
+    // No sets.
+    pub(crate) fn none() -> Shortlist
+        ensures { IsEmpty result }
+    {
+        Shortlist {
+            entries: ArrayVec::new(),
+            accurate: false,
+        }
+    }
+
     // The sets of the list.
     pub(crate) fn items(&self) -> &[Entry]
         ensures { result.now ≡ listed self.now }

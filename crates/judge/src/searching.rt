@@ -1,7 +1,7 @@
 // The selection that strikes fewest and, among equals, comes first.
 ghost use Rattle.std.specs.Prelude.{◌≡◌, ◌+◌, ◌≤◌, MatchOption};
-ghost use Rattle.judge.specs.Search.{Fewest, Found, NoStrike, NoneBelow, Searches, group};
-ghost use Rattle.judge.specs.Shortlists.{listed};
+ghost use Rattle.judge.specs.Search.{AllEmpty, Fewest, Found, NoStrike, NoneBelow, Searches, group};
+ghost use Rattle.judge.specs.Shortlists.{IsEmpty, listed};
 ghost use Rattle.runs.specs.Closed.{lists_of};
 
 use crate::listing::Candidates;
@@ -21,29 +21,50 @@ pub(crate) struct Search<'a, S> {
 }
 
 impl<'a, S: Standard> Search<'a, S> {
-    pub(crate) fn new(standard: &'a S, closed: &Levels<ClosedRuns>) -> Search<'a, S>
+    // A search that has no shortlists yet.
+    pub(crate) fn new(standard: &'a S) -> Search<'a, S>
         ensures standard { result.standard.now ≡ standard.now }
-        ensures whole { Searches (S.meaning standard.now) (lists_of closed.now) result.low result.mid result.high }
+        ensures low { AllEmpty result.low }
+        ensures mid { IsEmpty result.mid }
+        ensures high { IsEmpty result.high }
     {
+        Search {
+            standard,
+            low: ByCount {
+                groups: [
+                    Shortlist::none(),
+                    Shortlist::none(),
+                    Shortlist::none(),
+                    Shortlist::none(),
+                ],
+            },
+            mid: Shortlist::none(),
+            high: Shortlist::none(),
+        }
+    }
+
+    // Makes the shortlists of the closed runs.
+    pub(crate) fn gather(&mut self, closed: &'a Levels<ClosedRuns>)
+        requires low { AllEmpty self.old.low }
+        requires mid { IsEmpty self.old.mid }
+        requires high { IsEmpty self.old.high }
+        ensures standard { self.new.standard.now ≡ self.old.standard.now }
+        ensures whole { Searches (S.meaning self.old.standard.now) (lists_of closed.now) self.new.low self.new.mid self.new.high }
+    {
+        let standard = self.standard;
         let at = |level: Level, from: u32, to: u32| Candidates {
             standard,
             level,
             runs: closed.at(level),
             strikes: from..=to,
         };
-        Search {
-            standard,
-            low: ByCount {
-                groups: [
-                    at(Level::Low, 0, 0).shortlist(),
-                    at(Level::Low, 1, 1).shortlist(),
-                    at(Level::Low, 2, 2).shortlist(),
-                    at(Level::Low, 3, 3).shortlist(),
-                ],
-            },
-            mid: at(Level::Mid, 0, 3).shortlist(),
-            high: at(Level::High, 0, 3).shortlist(),
-        }
+        let low = &mut self.low;
+        at(Level::Low, 0, 0).gather(&mut low.groups[0]);
+        at(Level::Low, 1, 1).gather(&mut low.groups[1]);
+        at(Level::Low, 2, 2).gather(&mut low.groups[2]);
+        at(Level::Low, 3, 3).gather(&mut low.groups[3]);
+        at(Level::Mid, 0, 3).gather(&mut self.mid);
+        at(Level::High, 0, 3).gather(&mut self.high);
     }
 
     // The selection that strikes fewest and comes first, and how many it strikes.

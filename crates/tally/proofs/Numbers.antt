@@ -1,5 +1,6 @@
 -- The numbers made from a tally's sums, as naturals.
 use Rattle.std.proofs.Common.{◌≡◌, ℕ, ◌+◌, ◌-◌, ◌*◌, ◌≤◌, false, ◌⊎◌, ℤ, pos, negsuc, ◌-ℤ◌, ◌*ℤ◌, ◌≤ℤ◌, nat_abs, sym, refl, ap, ◌∙◌, subst, inl, inr, ⊎_elim, le_of_lt, add-sub_of_le, arith}
+use Rattle.std.specs.Int.{abs_diff}
 use lib.Signed.{lt_z}
 use Rattle.std.proofs.lemmas.Nat.{mul-le}
 use Rattle.std.proofs.lemmas.Int.{ints}
@@ -22,6 +23,10 @@ by_gap : (a b k : ℕ) → nat_abs (pos a -ℤ pos b) ≡ k → (a + k ≡ b) �
     → nat_abs (pos a -ℤ pos b) * nat_abs (pos a -ℤ pos b) + 2 * (a * b) ≡ a * a + b * b
 by_gap a b k e (inl h) = rw e (subst (λ x. k * k + 2 * (a * x) ≡ a * a + x * x) h (omega arith))
 by_gap a b k e (inr h) = rw e (subst (λ x. k * k + 2 * (x * b) ≡ x * x + b * b) h (omega arith))
+
+-- how far apart the sums of the references and of the predictions are
+pub apart : (s : Sums) → abs_diff s.r s.p ≡ nat_abs (D s)
+apart s = omega (arith, ints)
 
 -- The square of a distance.
 pub distance_square : (a b : ℕ) → nat_abs (pos a -ℤ pos b) * nat_abs (pos a -ℤ pos b) + 2 * (a * b) ≡ a * a + b * b

@@ -1,12 +1,12 @@
 -- The square of the shared spread of two numbers of each pair is at most the product of their own spreads.
-use Rattle.std.proofs.Common.{◌≡◌, ℕ, ◌+◌, ◌*◌, ◌≤◌, ltb, List, [], ◌∷◌, length, pos, ◌-ℤ◌, sum_by, sym, ap, subst, ⊎_elim, mul-le-mul_left, arith}
+use Rattle.std.proofs.Common.{◌≡◌, ℕ, ◌+◌, ◌*◌, ◌<◌, ◌≤◌, Bool, true, false, refl, List, [], ◌∷◌, length, pos, ◌-ℤ◌, sum_by, sym, ap, subst, ⊎_elim, mul-le-mul_left, arith}
 use mathlib.Core.Logic.{∥∥₁_elim}
 use native.Mathlib.Bridge.{le_prop}
 use native.Mathlib.Nat.{le_of_mul-le-mul_left}
 use Rattle.std.proofs.lemmas.Int.{ints}
 use Rattle.std.proofs.lemmas.Nat.{mul-le}
 use Rattle.std.proofs.lemmas.List.Sums.{sum_by-cons}
-use Rattle.std.proofs.lemmas.Bool.{cases_lt, le-ltb, lt-ltb}
+use Rattle.std.proofs.lemmas.Bool.{cases_lt}
 use Rattle.std.specs.Bool.{then_some}
 use Rattle.tally.specs.Numbers.{X, Y}
 use Rattle.tally.specs.Sums.{TallyOf, Tops}
@@ -82,15 +82,12 @@ shared_of s real x y z ex ey ez =
     (λ ex ey ez. shared (λ q. q.reference) (λ q. q.predicted) w.0 x y z (back _ _ x ex) (back _ _ y ey) ez)
     ex ey ez)
 
--- A shared spread is answered where it is above 0.
-pub shared_answer : {most : ℕ} (s : Sums) → most ≤ 36 → TallyOf most s → Tops most s → (z : ℕ) → z + s.r * s.p ≡ s.n * s.rp → SharedAnswer s (then_some (ltb 0 z) z)
-shared_answer {most} s few real tops z e =
-    ⊎_elim
-    (λ h. rw (lt-ltb 0 z h) (record {
-      value = minus_is _ _ _ e;
-      above = h;
-      top = omega (arith, tops, mul-le _ _ _ _ few few);
-      square = λ x y ex ey. shared_of s real x y z ex ey e;
-    }))
-    (λ h. rw (le-ltb 0 z h) (omega (arith, ints)))
-    (cases_lt 0 z)
+-- A shared spread is answered where it is above 0, as a test of that says.
+pub shared_answer : {most : ℕ} (s : Sums) → most ≤ 36 → TallyOf most s → Tops most s → (z : ℕ) → z + s.r * s.p ≡ s.n * s.rp → (some : Bool) → (some ≡ true → 0 < z) → (some ≡ false → z ≤ 0) → SharedAnswer s (then_some some z)
+shared_answer {most} s few real tops z e true above none = record {
+  value = minus_is _ _ _ e;
+  above = above refl;
+  top = omega (arith, tops, mul-le _ _ _ _ few few);
+  square = λ x y ex ey. shared_of s real x y z ex ey e;
+}
+shared_answer s few real tops z e false above none = let h = none refl in omega (arith, ints)

@@ -21,7 +21,8 @@ impl<const MOST: usize> Totals<MOST> {
         ensures differences { DifferenceSpread self.now.sums result }
     {
         let sums = &self.sums;
-        spread(sums.n, sums.rr + sums.pp - 2 * sums.rp, self.distance())
+        let distance = sums.r.abs_diff(sums.p);
+        spread(sums.n, sums.rr + sums.pp - 2 * sums.rp, distance)
     }
 
     // X: the same of the references.

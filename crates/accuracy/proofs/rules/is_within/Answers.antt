@@ -1,4 +1,4 @@
-use Rattle.std.proofs.Common.{◌-◌, ◌*◌, ◌≤◌, sym, arith}
+use Rattle.std.proofs.Common.{◌-◌, ◌*◌, ◌≤◌, sym, arith, rules}
 use Rattle.std.proofs.lemmas.Nat.{mul-le}
 use Rattle.accuracy.proofs.Within.{not_within, within_is}
 use Rattle.accuracy.proofs.rules.is_within.Goals as goal
@@ -18,4 +18,5 @@ pub returns : goal.returns
 returns c =
     let some = c.in-Some.ensures in
     let left = c.in-Some-checked_sub.ensures in
-    rw left.1 (sym (within_is c.args.tally.now.sums _ _ _ _ some.0 some.1 c.distance.ensures.value left.0))
+    let within = within_is c.args.tally.now.sums _ _ _ _ some.0 some.1 c.distance.ensures.value left.0 in
+    rw (left.1, within) (search rules)

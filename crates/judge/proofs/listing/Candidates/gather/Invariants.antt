@@ -1,7 +1,7 @@
 use Rattle.std.specs.Range.{range_inclusive_start, range_inclusive_end}
 use Rattle.judge.specs.Shortlists.{Gathered}
 use Rattle.runs.specs.Closed.{pairs_of}
-use Rattle.judge.proofs.listing.Candidates.shortlist.Given as goal
+use Rattle.judge.proofs.listing.Candidates.gather.Given as goal
 
 -- the sets so far
 abbrev pub invariant-loop-set : goal.invariant-loop-set
