@@ -6,6 +6,7 @@ use Rattle.judge.specs.declared.shortlists.Entry.{Entry}
 use Rattle.judge.specs.declared.shortlists.Shortlist.{Shortlist}
 use Rattle.runs.specs.Sets.{kept}
 use Rattle.standard.specs.Meaning.{Meaning}
+use Rattle.standard.specs.declared.standards.Limits.{Limits}
 use Rattle.tally.specs.Sums.{sums_of}
 use Rattle.tally.specs.Tallying.{empty}
 use Rattle.terms.specs.declared.levels.Level.{Level}
@@ -31,6 +32,10 @@ pub record Listed (m : Meaning) (at : Level) (runs : List Pair) (e : Entry) : Ty
   pub passes : Passes m at runs e.set
   pub struck : e.struck ≡ count_ones e.set
   pub tallied : e.kept.sums ≡ sums_of (kept e.set runs)
+
+-- the limits of a standard of this meaning
+abbrev pub AreLimits : Meaning → Limits → Type 0
+AreLimits m limits = (limits.least_kept ≡ m.least_kept) × (limits.most_struck ≡ m.most_struck)
 
 -- a set that strikes from so many to so many
 abbrev pub Between : ℕ → ℕ → ℕ → Type 0

@@ -2,13 +2,13 @@
 ghost use Rattle.std.specs.Prelude.{◌≡◌, ◌+◌, ◌^◌, ◌<◌, false, length, MatchBool};
 ghost use Rattle.std.specs.Range.{range_inclusive_start, range_inclusive_end, range_inclusive_exhausted};
 ghost use Rattle.judge.specs.Sets.{Fits};
-ghost use Rattle.judge.specs.Shortlists.{Between, Gathered, IsEmpty, Whole, listed};
+ghost use Rattle.judge.specs.Shortlists.{AreLimits, Between, Gathered, IsEmpty, Whole, listed};
 ghost use Rattle.runs.specs.Closed.{pairs_of};
 
 use crate::shortlists::{Entry, Shortlist};
 use arrayvec::ArrayVec;
 use runs::ClosedRuns;
-use standard::Standard;
+use standard::{Limits, Standard};
 use std::ops::RangeInclusive;
 use tally::Tally;
 use terms::Level;
@@ -30,23 +30,21 @@ impl<S: Standard> Candidates<'_, S> {
         requires { IsEmpty list.old }
         ensures { Whole (S.meaning self.now.standard.now) self.now.level (pairs_of self.now.runs.now) (range_inclusive_start self.now.strikes) (range_inclusive_end self.now.strikes) list.new }
     {
+        let limits = self.standard.limits();
         for set in 0..(1u32 << self.runs.len()) {
-            self.consider(set, list);
+            self.consider(set, limits, list);
         }
     }
 
     // Whether a set strikes so many, and fits.
-    fn takes(&self, set: u32) -> bool
+    fn takes(&self, set: u32, limits: Limits) -> bool
         requires closed { set < 2 ^ length (pairs_of self.now.runs.now) }
+        requires limits { AreLimits (S.meaning self.now.standard.now) limits }
         ensures { MatchBool result (Between (range_inclusive_start self.now.strikes) (range_inclusive_end self.now.strikes) set × Fits (S.meaning self.now.standard.now) (pairs_of self.now.runs.now) set) (Between (range_inclusive_start self.now.strikes) (range_inclusive_end self.now.strikes) set → Fits (S.meaning self.now.standard.now) (pairs_of self.now.runs.now) set → ⊥) }
     {
         let struck = set.count_ones();
-        // The standard is asked only of the few sets that strike so many.
-        if !self.strikes.contains(&struck) {
-            return false;
-        }
-        let limits = self.standard.limits();
-        struck <= limits.most_struck
+        self.strikes.contains(&struck)
+            && struck <= limits.most_struck
             // A length has no `From` of a `u32`.
             && (limits.least_kept + struck) as usize <= self.runs.len()
     }
@@ -66,12 +64,13 @@ impl<S: Standard> Candidates<'_, S> {
     }
 
     // Takes a set in where it strikes so many, fits and gets both yeses.
-    fn consider(&self, set: u32, list: &mut Shortlist)
+    fn consider(&self, set: u32, limits: Limits, list: &mut Shortlist)
         requires closed { set < 2 ^ length (pairs_of self.now.runs.now) }
+        requires limits { AreLimits (S.meaning self.now.standard.now) limits }
         requires begun { Gathered (S.meaning self.now.standard.now) self.now.level (pairs_of self.now.runs.now) (range_inclusive_start self.now.strikes) (range_inclusive_end self.now.strikes) set list.old }
         ensures { Gathered (S.meaning self.now.standard.now) self.now.level (pairs_of self.now.runs.now) (range_inclusive_start self.now.strikes) (range_inclusive_end self.now.strikes) (set + 1) list.new }
     {
-        if !self.takes(set) {
+        if !self.takes(set, limits) {
             return;
         }
         let kept = self.runs.kept(set);

@@ -11,10 +11,11 @@ use Rattle.judge.proofs.listing.Candidates.takes.Goals as goal
 pub returns-then-struck-limits : goal.returns-then-struck-limits
 returns-then-struck-limits g c =
     let all = kept_struck (pairs_of c.args.self.now.runs.now) c.args.set c.requires.closed in
-    let needed = c.limits-limits.result.least_kept + ones c.args.set in
+    let limits = c.requires.limits in
+    let needed = c.args.limits.least_kept + ones c.args.set in
     either (leb needed c.len.result) _ _
     (λ e.
     let enough = leb-true needed c.len.result e in
     let between : Between (range_inclusive_start c.args.self.now.strikes) (range_inclusive_end c.args.self.now.strikes) c.args.set = search rules in
-    (between, record { closed = c.requires.closed; keeps = omega arith; strikes = omega arith }))
-    (λ e between fits. let wanting = leb-false needed c.len.result e in omega (arith, fits.keeps))
+    (between, record { closed = c.requires.closed; keeps = omega (arith, limits.0, limits.1); strikes = omega (arith, limits.0, limits.1) }))
+    (λ e between fits. let wanting = leb-false needed c.len.result e in omega (arith, limits.0, fits.keeps))
