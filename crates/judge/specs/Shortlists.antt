@@ -35,7 +35,8 @@ pub record Listed (m : Meaning) (at : Level) (runs : List Pair) (e : Entry) : Ty
 
 -- the limits of a standard of this meaning
 abbrev pub AreLimits : Meaning → Limits → Type 0
-AreLimits m limits = (limits.least_kept ≡ m.least_kept) × (limits.most_struck ≡ m.most_struck)
+AreLimits m limits =
+    (limits.least_kept ≡ m.least_kept) × (limits.most_struck ≡ m.most_struck) × (limits.most_in_all ≡ m.most_in_all)
 
 -- a set that strikes from so many to so many
 abbrev pub Between : ℕ → ℕ → ℕ → Type 0
